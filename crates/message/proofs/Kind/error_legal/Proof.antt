@@ -1,0 +1,45 @@
+-- Carried by the case of the error byte, and the kind's range.
+use borrow.Author.Needs.{needs}
+use Rattle.message.specs.Checks.{errorLegal}
+use Rattle.message.specs.Kinds.{inside}
+use Rattle.message.proofs.Kind.error_legal.Statement.{statement}
+use Rattle.message.proofs.Kind.error_legal.Tie as tie
+
+enum-known-error : tie.Need-enum-known-error
+enum-known-error c = search needs
+
+error-range-requires : tie.Need-error-range-requires
+error-range-requires c κs = search needs
+
+cast-contains : tie.Need-cast-contains
+cast-contains c = search needs
+
+contains-requires : tie.Need-contains-requires
+contains-requires c κs = search needs
+
+enum-told : tie.Need-enum-told
+enum-told c = search needs
+
+is-ack-requires : tie.Need-is-ack-requires
+is-ack-requires c κs = search needs
+
+returns : tie.Need-returns
+unfolding errorLegal inside
+returns c = cc
+
+returns-2 : tie.Need-returns-2
+unfolding errorLegal inside
+returns-2 c = cc
+
+pub error-legal-spec : {M : Type 1} → statement M
+error-legal-spec =
+    tie.close
+    (tie.spec
+    enum-known-error
+    error-range-requires
+    cast-contains
+    contains-requires
+    enum-told
+    is-ack-requires
+    returns
+    returns-2)

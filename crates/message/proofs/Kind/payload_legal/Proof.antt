@@ -1,0 +1,19 @@
+-- Carried by congruence: the range that the table gives has the kind's two ends.
+use borrow.Author.Needs.{needs}
+use Rattle.message.specs.Checks.{payloadLegal}
+use Rattle.message.specs.Kinds.{inside}
+use Rattle.message.proofs.Kind.payload_legal.Statement.{statement}
+use Rattle.message.proofs.Kind.payload_legal.Tie as tie
+
+payload-range-requires : tie.Need-payload-range-requires
+payload-range-requires c κs = search needs
+
+contains-requires : tie.Need-contains-requires
+contains-requires c κs = search needs
+
+returns : tie.Need-returns
+unfolding payloadLegal inside
+returns c = cc
+
+pub payload-legal-spec : {M : Type 1} → statement M
+payload-legal-spec = tie.close (tie.spec payload-range-requires contains-requires returns)
