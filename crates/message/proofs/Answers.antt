@@ -1,13 +1,18 @@
 -- The laws of the answer shapes: when an output is long enough, and how a copy fills its start byte by byte.
 use Prim.Native.Nat.{ℕ, suc, _+_, _≤_, _<_}
-use mathlib.Core.Path.{_≡_, sym}
+use mathlib.Core.Path.{_≡_, refl, sym, _∙_}
+use mathlib.Core.Bool.{Bool, true, false}
 use mathlib.Core.List.{List, _∷_, [], _++_}
 use native.Mathlib.Numerals.{add-one}
 use native.Mathlib.Omega.{arith}
-use borrow.Author.Tests.{le-leb, lt-leb}
+use borrow.Author.Tests.{le-leb, lt-leb, leb-true, leb-false}
+use lib.Dec.{leb}
 use lib.ListN.{length, getD, set, take, drop}
 use lib.Seq.{drop-cons, take-suc, append-snoc, set-at, length-take-le, take-length}
-use Rattle.message.specs.Answer.{Answer, refused, given, require, after, within}
+use Rattle.message.specs.declared.Refusal.{Refusal}
+use Rattle.message.specs.declared.WriteAnswer.{WriteAnswer}
+use Rattle.message.specs.declared.WriteAnswer.the-variants.{Refused, Length}
+use Rattle.message.specs.Answer.{number, writeTold, written, Answer, refused, given, require, after, within, counted, laid}
 
 module _ {A : Type 0} (out : List ℕ) (a : A) (b : List ℕ) where
   pub too-short : length out < length b → within out (given a b) ≡ refused 8
@@ -18,6 +23,30 @@ module _ {A : Type 0} (out : List ℕ) (a : A) (b : List ℕ) where
   unfolding within require after
   long-enough h = rw le-leb
 
+-- What a caller can tell from an answer: a refusal is the output's, and a count is that of the bytes, which fit.
+module _ {A : Type 0} (a : A) (out b : List ℕ) (n : ℕ) where
+  pub told-short : counted (within out (given a b)) ≡ refused n → (length out < length b) × (n ≡ 8)
+  unfolding counted within require after
+  told-short e = by (leb (length b) (length out)) refl
+    where
+      by : (t : Bool) → leb (length b) (length out) ≡ t → (length out < length b) × (n ≡ 8)
+      by true q = absurd (let z : _≡_ {A = ℕ} 0 1 = cc (rw q at e) in omega arith)
+      by false q = (leb-false _ _ q, cc (rw q at e))
+
+  pub told-length : (a′ : A) → counted (within out (given a b)) ≡ given a′ n → (length b ≤ length out) × (n ≡ length b)
+  unfolding counted within require after
+  told-length a′ e = by (leb (length b) (length out)) refl
+    where
+      by : (t : Bool) → leb (length b) (length out) ≡ t → (length b ≤ length out) × (n ≡ length b)
+      by true q = (leb-true _ _ q, cc (rw q at e))
+      by false q = absurd (let z : _≡_ {A = ℕ} 0 1 = cc (rw q at e) in omega arith)
+
+-- A refusal leaves the output as it came.
+pub refusal-leaves : {A : Type 0} (x : Answer A (List ℕ)) (n : ℕ) (out : List ℕ) → counted x ≡ refused n → laid x out ≡ out
+unfolding counted laid
+refusal-leaves (refused k) n out e = refl
+refusal-leaves (given a b) n out e = let z : _≡_ {A = ℕ} 0 1 = cc in absurd (omega arith)
+
 -- A turn of a loop that copies `bytes` over the start of `out`.
 pub copy-step : (bytes out : List ℕ) (i : ℕ) → i < length bytes → i < length out → set (take i bytes ++ drop i out) i (getD bytes i 0) ≡ take (i + 1) bytes ++ drop (i + 1) out
 copy-step bytes out i h k =
@@ -26,3 +55,19 @@ copy-step bytes out i h k =
 -- Its end: all of `bytes`, and past them what was there.
 pub copy-done : (bytes out : List ℕ) (i : ℕ) → i ≡ length bytes → take i bytes ++ drop i out ≡ bytes ++ drop (length bytes) out
 copy-done bytes out i e = rw (e, take-length)
+
+-- What a caller of `lay` learns in each case of its answer.
+module _ (bytes out out′ : List ℕ) (w : WriteAnswer) (told : writeTold w ≡ counted (within out (written bytes))) (left : out′ ≡ laid (within out (written bytes)) out) where
+  pub lay-refused : (r : Refusal) → w ≡ Refused r → (length out < length bytes) × (number r ≡ 8) × (out′ ≡ out)
+  unfolding writeTold
+  lay-refused r e =
+      let t : counted (within out (written bytes)) ≡ refused (number r) = cc in
+      let h = told-short tt out bytes (number r) t in
+      (h .0, h .1, left ∙ refusal-leaves _ _ out t)
+
+  pub lay-length : (n : ℕ) → w ≡ Length n → (length bytes ≤ length out) × (n ≡ length bytes) × (out′ ≡ bytes ++ drop (length bytes) out)
+  unfolding writeTold laid
+  lay-length n e =
+      let t : counted (within out (written bytes)) ≡ writeTold (Length n) = cc in
+      let h = told-length tt out bytes n tt t in
+      (h .0, h .1, left ∙ rw (long-enough out (tt {0}) bytes (h .0)))

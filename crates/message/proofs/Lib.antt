@@ -1,1 +1,5 @@
 pub mod Answers
+pub mod Checks
+pub mod Bodies
+pub mod Tables
+pub mod Parts

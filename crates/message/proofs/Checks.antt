@@ -1,0 +1,31 @@
+-- The laws of a row of checks: it passes exactly where each of its tests holds.
+use Prim.Native.Nat.{ℕ}
+use mathlib.Core.Path.{_≡_, refl}
+use mathlib.Core.Bool.{Bool, true, false, _&&_}
+use native.Mathlib.Omega.{arith}
+use Rattle.message.specs.Answer.{Check, passed, failed, require}
+use Rattle.message.specs.Checks.{idLegal, payloadLegal, errorLegal, fieldChecks, messageChecks}
+use Rattle.message.specs.declared.ErrorByte.{ErrorByte}
+use Rattle.message.specs.declared.Kind.{Kind}
+use Rattle.message.specs.declared.Message.{Message}
+
+pub require-passed : (t : Bool) (n : ℕ) (rest : Check) → require t n rest ≡ passed → (t ≡ true) × (rest ≡ passed)
+unfolding require
+require-passed true n rest e = (refl, e)
+require-passed false n rest e = absurd (let z : _≡_ {A = ℕ} 0 1 = cc in omega arith)
+
+pub both-true : (a b : Bool) → a && b ≡ true → (a ≡ true) × (b ≡ true)
+both-true true b e = (refl, e)
+both-true false b e = absurd (let z : _≡_ {A = ℕ} 0 1 = cc in omega arith)
+
+module _ (k : Kind) (id : ℕ) (fits : Bool) (e : ErrorByte) where
+  pub fields-passed : fieldChecks k id fits e ≡ passed → (idLegal k id ≡ true) × (fits ≡ true) × (errorLegal k e ≡ true)
+  unfolding fieldChecks
+  fields-passed h =
+      let h5 = require-passed (idLegal k id) 5 _ h in
+      let h6 = require-passed fits 6 _ (h5 .1) in
+      (h5 .0, h6 .0, require-passed (errorLegal k e) 7 _ (h6 .1) .0)
+
+  pub fields-pass : idLegal k id ≡ true → fits ≡ true → errorLegal k e ≡ true → fieldChecks k id fits e ≡ passed
+  unfolding fieldChecks require
+  fields-pass h5 h6 h7 = rw (h5, h6, h7)
