@@ -1,13 +1,14 @@
 -- CSP data (document 01, "CAN and CSP"): the type 1..6, the ID, then the data as on a serial link.
 use Prim.Native.Nat.{ℕ}
-use mathlib.Core.Bool.{Bool, not, _&&_}
+use mathlib.Core.Bool.{false}
 use mathlib.Core.List.{List, _∷_, _++_}
 use lib.Dec.{leb}
 use lib.ListN.{length, getD, drop}
 use Rattle.message.specs.Answer.{Answer, refused, passed, require, after, written}
 use Rattle.message.specs.Body.{bodyRead, errorBytes}
-use Rattle.message.specs.Checks.{errorTold, messageChecks}
-use Rattle.message.specs.Kinds.{isEvent, typeNumber, typeKind}
+use Rattle.message.specs.Checks.{writeChecks}
+use Rattle.message.specs.Kinds.{typeNumber, typeKind, carried}
+use Rattle.message.specs.declared.Carries.{Carries}
 use Rattle.message.specs.declared.Message.{Message}
 use Rattle.message.specs.declared.TypeKind.{TypeKind}
 use Rattle.message.specs.declared.TypeKind.the-variants.{Known, Unknown}
@@ -22,13 +23,19 @@ unfoldable pub cspRead : List ℕ → Answer Message (List ℕ)
 cspRead b = after (require (leb 2 (length b)) 1 passed) (cspTyped (typeKind (getD b 0 0)) (getD b 1 0) (drop 2 b))
 
 -- 9: events aren't written on CSP, nor a nack that is "not told".
-unfoldable pub cspWritable : Message → Bool
-cspWritable m = not (isEvent (m .kind)) && errorTold (m .kind) (m .error)
+abbrev pub cspCarries : Carries
+cspCarries = record { events = false; untold = false }
 
 -- What stands in front of the payload: type, ID, and what tells the error.
 unfoldable pub cspHead : Message → List ℕ
-cspHead m = typeNumber (m .kind) ∷ m .id ∷ errorBytes (m .kind) (m .error) (m .index)
+cspHead m = typeNumber (m .kind) ∷ m .id ∷ errorBytes m
 
 -- "Refusal numbers", writing: 9, 5, 6, 7. The 8 comes with the lent output.
 unfoldable pub cspWrite : Message → List ℕ → Answer Unit (List ℕ)
-cspWrite m p = after (require (cspWritable m) 9 (messageChecks m (length p))) (written (cspHead m ++ p))
+cspWrite m p = after (writeChecks cspCarries m (length p)) (written (cspHead m ++ p))
+
+-- Every field that CSP and the kind carry; the others are 0.
+unfoldable pub cspCarried : Message → Message
+cspCarried m =
+    let c = carried m in
+    record { kind = c .kind; id = c .id; source = 0; destination = 0; error = c .error; index = c .index }

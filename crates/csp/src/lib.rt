@@ -4,12 +4,13 @@
 ghost use Prim.Native.Nat.{_+_, _≤_};
 ghost use mathlib.Core.Path.{_≡_};
 ghost use mathlib.Core.List.{_++_};
-ghost use lib.ListN.{length};
+ghost use lib.ListN.{length, getD};
 ghost use lib.Seq.{sets};
 ghost use Rattle.message.specs.Answer.{readTold, writeTold, within, counted, laid, given, written};
 ghost use Rattle.message.specs.Body.{bodyRead};
 ghost use Rattle.message.specs.Kinds.{errorLength};
-ghost use Rattle.csp.specs.Csp.{cspRead, cspWritable, cspHead, cspWrite};
+ghost use Rattle.csp.specs.Csp.{cspRead, cspHead, cspWrite};
+use message::Carries;
 use message::ErrorByte;
 use message::Kind;
 use message::Message;
@@ -39,24 +40,30 @@ fn read_body(kind: Kind, id: u8, body: &[u8], out: &mut [u8]) -> ReadAnswer
     ensures { λ r. ⌜ readTold r ≡ counted (within (now (out .entry)) (bodyRead kind id 0 0 (now (body .entry)))) ⌝ }
     ensures { λ _. ⌜ now (out .exit) ≡ laid (within (now (out .entry)) (bodyRead kind id 0 0 (now (body .entry)))) (now (out .entry)) ⌝ }
 {
-    let error = message::error_field(kind, body, 0);
-    let index = message::error_field(kind, body, 1);
-    match message::check_body(kind, id, body.len(), error) {
+    let error = ErrorByte::Told(byte_or_zero(body, 0));
+    let index = byte_or_zero(body, 1);
+    let raw = Message {
+        kind,
+        id,
+        source: 0,
+        destination: 0,
+        error,
+        index,
+    };
+    let message = raw.carried();
+    match message::check_body(message, body.len()) {
         Verdict::Refused(refusal) => ReadAnswer::Refused(refusal),
         Verdict::Passed => {
-            let told = ErrorByte::Told(error);
-            let message = Message {
-                kind,
-                id,
-                source: 0,
-                destination: 0,
-                error: told,
-                index,
-            };
             let payload = kind.error_length();
             read_payload(message, &body[payload..], out)
         }
     }
+}
+
+fn byte_or_zero(bytes: &[u8], at: usize) -> u8
+    ensures { λ r. ⌜ r ≡ getD (now (bytes .entry)) at 0 ⌝ }
+{
+    if at < bytes.len() { bytes[at] } else { 0 }
 }
 
 fn read_payload(message: Message, payload: &[u8], out: &mut [u8]) -> ReadAnswer
@@ -74,24 +81,14 @@ pub fn write(message: Message, payload: &[u8], out: &mut [u8]) -> WriteAnswer
     ensures { λ r. ⌜ writeTold r ≡ counted (within (now (out .entry)) (cspWrite message (now (payload .entry)))) ⌝ }
     ensures { λ _. ⌜ now (out .exit) ≡ laid (within (now (out .entry)) (cspWrite message (now (payload .entry)))) (now (out .entry)) ⌝ }
 {
-    if !writable(message) {
-        return WriteAnswer::Refused(Refusal::NotWritable);
-    }
-    match message::check_message(message, payload.len()) {
+    let carries = Carries {
+        events: false,
+        untold: false,
+    };
+    match message::check_written(carries, message, payload.len()) {
         Verdict::Refused(refusal) => WriteAnswer::Refused(refusal),
         Verdict::Passed => write_checked(message, payload, out),
     }
-}
-
-fn writable(message: Message) -> bool
-    ensures { λ r. ⌜ r ≡ cspWritable message ⌝ }
-{
-    let kind = message.kind;
-    if kind.is_event() {
-        return false;
-    }
-    let error = message.error;
-    kind.error_told(error)
 }
 
 // Writes a message that passed its checks: the payload where it goes, then what stands in front of it.

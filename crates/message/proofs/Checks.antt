@@ -4,9 +4,7 @@ use mathlib.Core.Path.{_≡_, refl}
 use mathlib.Core.Bool.{Bool, true, false, _&&_}
 use native.Mathlib.Omega.{arith}
 use Rattle.message.specs.Answer.{Check, passed, failed, require}
-use Rattle.message.specs.Checks.{idLegal, payloadLegal, errorLegal, fieldChecks, messageChecks}
-use Rattle.message.specs.declared.ErrorByte.{ErrorByte}
-use Rattle.message.specs.declared.Kind.{Kind}
+use Rattle.message.specs.Checks.{idLegal, errorLegal, fieldChecks}
 use Rattle.message.specs.declared.Message.{Message}
 
 pub require-passed : (t : Bool) (n : ℕ) (rest : Check) → require t n rest ≡ passed → (t ≡ true) × (rest ≡ passed)
@@ -18,14 +16,14 @@ pub both-true : (a b : Bool) → a && b ≡ true → (a ≡ true) × (b ≡ true
 both-true true b e = (refl, e)
 both-true false b e = absurd (let z : _≡_ {A = ℕ} 0 1 = cc in omega arith)
 
-module _ (k : Kind) (id : ℕ) (fits : Bool) (e : ErrorByte) where
-  pub fields-passed : fieldChecks k id fits e ≡ passed → (idLegal k id ≡ true) × (fits ≡ true) × (errorLegal k e ≡ true)
+module _ (m : Message) (fits : Bool) where
+  pub fields-passed : fieldChecks m fits ≡ passed → (idLegal (m .kind) (m .id) ≡ true) × (fits ≡ true) × (errorLegal (m .kind) (m .error) ≡ true)
   unfolding fieldChecks
   fields-passed h =
-      let h5 = require-passed (idLegal k id) 5 _ h in
+      let h5 = require-passed (idLegal (m .kind) (m .id)) 5 _ h in
       let h6 = require-passed fits 6 _ (h5 .1) in
-      (h5 .0, h6 .0, require-passed (errorLegal k e) 7 _ (h6 .1) .0)
+      (h5 .0, h6 .0, require-passed (errorLegal (m .kind) (m .error)) 7 _ (h6 .1) .0)
 
-  pub fields-pass : idLegal k id ≡ true → fits ≡ true → errorLegal k e ≡ true → fieldChecks k id fits e ≡ passed
+  pub fields-pass : idLegal (m .kind) (m .id) ≡ true → fits ≡ true → errorLegal (m .kind) (m .error) ≡ true → fieldChecks m fits ≡ passed
   unfolding fieldChecks require
   fields-pass h5 h6 h7 = rw (h5, h6, h7)

@@ -1,8 +1,11 @@
--- The checks 5, 6 and 7 in the order that reading and writing share (document 01, "Refusal numbers").
-use Prim.Native.Nat.{ℕ}
-use mathlib.Core.Bool.{Bool, true, not}
+-- The checks that reading and writing share, in their order (document 01, "Refusal numbers"): 9, 5, 6, 7. The 8 comes last, with the
+-- lent output.
+use Prim.Native.Nat.{ℕ, _-_}
+use mathlib.Core.Bool.{Bool, true, not, _&&_, _||_, cond}
+use lib.Dec.{leb}
 use Rattle.message.specs.Answer.{Check, passed, require}
-use Rattle.message.specs.Kinds.{inside, idRange, payloadRange, errorRange, isAck, isNack}
+use Rattle.message.specs.Kinds.{inside, idRange, payloadRange, errorRange, errorLength, isAck, isNack, isEvent}
+use Rattle.message.specs.declared.Carries.{Carries}
 use Rattle.message.specs.declared.ErrorByte.{ErrorByte}
 use Rattle.message.specs.declared.ErrorByte.the-variants.{Told, NotTold}
 use Rattle.message.specs.declared.Kind.{Kind}
@@ -19,19 +22,30 @@ unfoldable pub errorLegal : Kind → ErrorByte → Bool
 errorLegal k (Told e) = inside (errorRange k) e
 errorLegal k NotTold = not (isAck k)
 
--- 9 off CAN: a nack that is "not told" is not writable where the link carries the error byte.
-unfoldable pub errorTold : Kind → ErrorByte → Bool
-errorTold k (Told e) = true
-errorTold k NotTold = not (isNack k)
-
 -- 5 the ID is not of the kind's range, 6 wrong length for the kind, 7 ack error not 0, nack error not 1..10.
-unfoldable pub fieldChecks : Kind → ℕ → Bool → ErrorByte → Check
-fieldChecks k id fits e =
-    require (idLegal k id) 5
+unfoldable pub fieldChecks : Message → Bool → Check
+fieldChecks m fits =
+    require (idLegal (m .kind) (m .id)) 5
     (require fits 6
-    (require (errorLegal k e) 7
+    (require (errorLegal (m .kind) (m .error)) 7
     passed))
 
--- Of a message that is written with a payload of n bytes, on every link.
-unfoldable pub messageChecks : Message → ℕ → Check
-messageChecks m n = fieldChecks (m .kind) (m .id) (payloadLegal (m .kind) n) (m .error)
+-- 9: an event where the link has none, a "not told" nack where the link carries the error byte.
+unfoldable pub told : Kind → ErrorByte → Bool
+told k (Told e) = true
+told k NotTold = not (isNack k)
+
+unfoldable pub writable : Carries → Message → Bool
+writable l m = cond (isEvent (m .kind)) (l .events) (l .untold || told (m .kind) (m .error))
+
+-- Writing with a payload of n bytes: 9, 5, 6, 7.
+unfoldable pub writeChecks : Carries → Message → ℕ → Check
+writeChecks l m n = require (writable l m) 9 (fieldChecks m (payloadLegal (m .kind) n))
+
+-- Data of n bytes is of the right length: what tells the error, and then a payload that the kind can have.
+unfoldable pub bodyFits : Kind → ℕ → Bool
+bodyFits k n = leb (errorLength k) n && payloadLegal k (n - errorLength k)
+
+-- Reading data of n bytes: 5, 6, 7.
+unfoldable pub bodyChecks : Message → ℕ → Check
+bodyChecks m n = fieldChecks m (bodyFits (m .kind) n)

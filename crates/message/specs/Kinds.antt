@@ -1,11 +1,11 @@
 -- The seven kinds: which IDs, payload lengths and error bytes each has (document 01, "Messages"), and its type (document 01, "CAN and CSP").
 use Prim.Native.Nat.{ℕ}
-use mathlib.Core.Bool.{Bool, true, false, _&&_, cond}
+use mathlib.Core.Bool.{Bool, _&&_, cond}
 use lib.Dec.{leb, eqb}
-use Rattle.message.specs.declared.ErrorByte.{ErrorByte}
-use Rattle.message.specs.declared.ErrorByte.the-variants.{Told, NotTold}
+use Rattle.message.specs.declared.ErrorByte.the-variants.{Told}
 use Rattle.message.specs.declared.Kind.{Kind}
 use Rattle.message.specs.declared.Kind.the-variants.{Telecommand, TelecommandAck, TelecommandNack, TelemetryRequest, TelemetryResponse, TelemetryNack, Event}
+use Rattle.message.specs.declared.Message.{Message}
 use Rattle.message.specs.declared.table.Range.{Range}
 use Rattle.message.specs.declared.TypeKind.{TypeKind}
 use Rattle.message.specs.declared.TypeKind.the-variants.{Known, Unknown}
@@ -58,33 +58,6 @@ errorLength TelemetryResponse = 0
 errorLength TelemetryNack = 2
 errorLength Event = 0
 
-abbrev pub isAck : Kind → Bool
-isAck Telecommand = false
-isAck TelecommandAck = true
-isAck TelecommandNack = false
-isAck TelemetryRequest = false
-isAck TelemetryResponse = false
-isAck TelemetryNack = false
-isAck Event = false
-
-abbrev pub isNack : Kind → Bool
-isNack Telecommand = false
-isNack TelecommandAck = false
-isNack TelecommandNack = true
-isNack TelemetryRequest = false
-isNack TelemetryResponse = false
-isNack TelemetryNack = true
-isNack Event = false
-
-abbrev pub isEvent : Kind → Bool
-isEvent Telecommand = false
-isEvent TelecommandAck = false
-isEvent TelecommandNack = false
-isEvent TelemetryRequest = false
-isEvent TelemetryResponse = false
-isEvent TelemetryNack = false
-isEvent Event = true
-
 -- "CAN and CSP": types 1..6 are tc, tcack, tcnack, tlmreq, tlmrsp, tlmnack; 9 an event.
 abbrev pub typeNumber : Kind → ℕ
 typeNumber Telecommand = 1
@@ -105,3 +78,25 @@ typeKind t =
     (cond (eqb t 5) (Known TelemetryResponse)
     (cond (eqb t 6) (Known TelemetryNack)
     Unknown)))))
+
+-- An ack has an error byte alone, a nack an index too, and nothing but an event has type 9.
+unfoldable pub isAck : Kind → Bool
+isAck k = eqb (errorLength k) 1
+
+unfoldable pub isNack : Kind → Bool
+isNack k = eqb (errorLength k) 2
+
+unfoldable pub isEvent : Kind → Bool
+isEvent k = eqb (typeNumber k) 9
+
+-- "Messages": fields that a kind doesn't carry read as 0.
+unfoldable pub carried : Message → Message
+carried m =
+    record {
+      kind = m .kind;
+      id = m .id;
+      source = m .source;
+      destination = m .destination;
+      error = cond (leb 1 (errorLength (m .kind))) (m .error) (Told 0);
+      index = cond (leb 2 (errorLength (m .kind))) (m .index) 0;
+    }

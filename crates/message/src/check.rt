@@ -1,64 +1,69 @@
-// The checks that reading and writing share, in their order: 5 the ID, 6 the length, 7 the error byte.
+// The checks that reading and writing share, in their order: 9 the link, 5 the ID, 6 the length, 7 the error byte.
 ghost use mathlib.Core.Path.{_≡_};
 ghost use Rattle.message.specs.Answer.{verdictTold};
-ghost use Rattle.message.specs.Checks.{fieldChecks, messageChecks};
-ghost use Rattle.message.specs.Body.{bodyFits, errorField};
-use crate::ErrorByte;
+ghost use Rattle.message.specs.Checks.{fieldChecks, writable, writeChecks, bodyFits, bodyChecks};
+use crate::Carries;
 use crate::Kind;
 use crate::Message;
 use crate::Refusal;
 use crate::Verdict;
 
-fn check_fields(kind: Kind, id: u8, fits: bool, error: ErrorByte) -> Verdict
-    ensures { λ r. ⌜ verdictTold r ≡ fieldChecks kind id fits error ⌝ }
+// The checks 9, 5, 6 and 7 of a message that is to be written with a payload of this length.
+pub fn check_written(link: Carries, message: Message, length: usize) -> Verdict
+    ensures { λ r. ⌜ verdictTold r ≡ writeChecks link message length ⌝ }
 {
-    if !kind.id_legal(id) {
+    if !writable(link, message) {
+        return Verdict::Refused(Refusal::NotWritable);
+    }
+    let kind = message.kind;
+    check_fields(message, kind.payload_legal(length))
+}
+
+// The checks 5, 6 and 7 of a message that was read with data of this length, where the link carries the error byte.
+pub fn check_body(message: Message, length: usize) -> Verdict
+    ensures { λ r. ⌜ verdictTold r ≡ bodyChecks message length ⌝ }
+{
+    let kind = message.kind;
+    check_fields(message, body_fits(kind, length))
+}
+
+fn check_fields(message: Message, fits: bool) -> Verdict
+    ensures { λ r. ⌜ verdictTold r ≡ fieldChecks message fits ⌝ }
+{
+    let kind = message.kind;
+    if !kind.id_legal(message.id) {
         return Verdict::Refused(Refusal::IdOutOfRange);
     }
     if !fits {
         return Verdict::Refused(Refusal::WrongLength);
     }
+    let error = message.error;
     if !kind.error_legal(error) {
         return Verdict::Refused(Refusal::IllegalValue);
     }
     Verdict::Passed
 }
 
-// The checks 5, 6 and 7 of a message that is to be written with a payload of this length, as on every link.
-pub fn check_message(message: Message, length: usize) -> Verdict
-    ensures { λ r. ⌜ verdictTold r ≡ messageChecks message length ⌝ }
+fn writable(link: Carries, message: Message) -> bool
+    ensures { λ r. ⌜ r ≡ writable link message ⌝ }
 {
     let kind = message.kind;
+    if kind.is_event() {
+        return link.events;
+    }
+    if link.untold {
+        return true;
+    }
     let error = message.error;
-    check_fields(kind, message.id, kind.payload_legal(length), error)
-}
-
-// The checks 5, 6 and 7 of data that was read, of this length and with this error byte (0 where the kind has none).
-pub fn check_body(kind: Kind, id: u8, length: usize, error: u8) -> Verdict
-    ensures { λ r. ⌜ verdictTold r ≡ fieldChecks kind id (bodyFits kind length) (ErrorByte.Told error) ⌝ }
-{
-    check_fields(kind, id, body_fits(kind, length), ErrorByte::Told(error))
+    kind.told(error)
 }
 
 fn body_fits(kind: Kind, length: usize) -> bool
     ensures { λ r. ⌜ r ≡ bodyFits kind length ⌝ }
 {
-    let split = kind.error_length();
-    if length < split {
+    let tells = kind.error_length();
+    if length < tells {
         return false;
     }
-    kind.payload_legal(length - split)
-}
-
-// The byte of data at a place of what tells the error, or 0 where the kind has no such field.
-pub fn error_field(kind: Kind, body: &[u8], at: usize) -> u8
-    ensures { λ r. ⌜ r ≡ errorField kind (now (body .entry)) at ⌝ }
-{
-    if kind.error_length() <= at {
-        return 0;
-    }
-    if body.len() <= at {
-        return 0;
-    }
-    body[at]
+    kind.payload_legal(length - tells)
 }

@@ -7,13 +7,13 @@ mod output;
 mod table;
 
 pub use check::check_body;
-pub use check::check_message;
-pub use check::error_field;
+pub use check::check_written;
 pub use output::lay;
 pub use table::type_kind;
 ghost use mathlib.Core.Path.{_≡_};
 ghost use Rattle.message.specs.Answer.{number};
 ghost use Rattle.message.specs.Body.{errorNumber};
+ghost use Rattle.message.specs.Kinds.{carried};
 
 // The seven kinds, with document 01's name for each.
 pub enum Kind {
@@ -97,6 +97,13 @@ pub enum WriteAnswer {
     Refused(Refusal),
 }
 
+// What a link carries beside plain messages; a message that it does not carry is refused with 9 when written.
+pub struct Carries {
+    pub events: bool,
+    // A nack that is "not told": the link carries no error byte.
+    pub untold: bool,
+}
+
 // The kind that a type number of CAN or CSP stands for.
 pub enum TypeKind {
     Known(Kind),
@@ -133,5 +140,37 @@ impl ErrorByte {
             ErrorByte::Told(e) => e,
             ErrorByte::NotTold => 0,
         }
+    }
+}
+
+impl Message {
+    // The message with 0 in the fields that its kind does not carry.
+    pub fn carried(self) -> Message
+        ensures { λ r. ⌜ r ≡ carried self ⌝ }
+    {
+        let kind = self.kind;
+        let error = self.error;
+        let tells = kind.error_length();
+        if tells == 0 {
+            return Message {
+                kind,
+                id: self.id,
+                source: self.source,
+                destination: self.destination,
+                error: ErrorByte::Told(0),
+                index: 0,
+            };
+        }
+        if tells == 1 {
+            return Message {
+                kind,
+                id: self.id,
+                source: self.source,
+                destination: self.destination,
+                error,
+                index: 0,
+            };
+        }
+        self
     }
 }

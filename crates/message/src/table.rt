@@ -1,7 +1,7 @@
 // What document 01 settles for each kind, one table a question.
 ghost use mathlib.Core.Path.{_≡_};
-ghost use Rattle.message.specs.Kinds.{inside, idRange, payloadRange, errorRange, errorLength, isAck, isNack, isEvent, typeNumber, typeKind};
-ghost use Rattle.message.specs.Checks.{idLegal, payloadLegal, errorLegal, errorTold};
+ghost use Rattle.message.specs.Kinds.{inside, idRange, payloadRange, errorRange, errorLength, isEvent, typeNumber, typeKind};
+ghost use Rattle.message.specs.Checks.{idLegal, payloadLegal, errorLegal, told};
 use crate::ErrorByte;
 use crate::Kind;
 use crate::TypeKind;
@@ -72,48 +72,6 @@ impl Kind {
         }
     }
 
-    fn is_ack(self) -> bool
-        ensures { λ r. ⌜ r ≡ isAck self ⌝ }
-    {
-        match self {
-            Kind::Telecommand => false,
-            Kind::TelecommandAck => true,
-            Kind::TelecommandNack => false,
-            Kind::TelemetryRequest => false,
-            Kind::TelemetryResponse => false,
-            Kind::TelemetryNack => false,
-            Kind::Event => false,
-        }
-    }
-
-    fn is_nack(self) -> bool
-        ensures { λ r. ⌜ r ≡ isNack self ⌝ }
-    {
-        match self {
-            Kind::Telecommand => false,
-            Kind::TelecommandAck => false,
-            Kind::TelecommandNack => true,
-            Kind::TelemetryRequest => false,
-            Kind::TelemetryResponse => false,
-            Kind::TelemetryNack => true,
-            Kind::Event => false,
-        }
-    }
-
-    pub fn is_event(self) -> bool
-        ensures { λ r. ⌜ r ≡ isEvent self ⌝ }
-    {
-        match self {
-            Kind::Telecommand => false,
-            Kind::TelecommandAck => false,
-            Kind::TelecommandNack => false,
-            Kind::TelemetryRequest => false,
-            Kind::TelemetryResponse => false,
-            Kind::TelemetryNack => false,
-            Kind::Event => true,
-        }
-    }
-
     // How many bytes of the data on UART, RS485 and CSP tell the error.
     pub fn error_length(self) -> usize
         ensures { λ r. ⌜ r ≡ errorLength self ⌝ }
@@ -144,6 +102,12 @@ impl Kind {
         }
     }
 
+    pub(crate) fn is_event(self) -> bool
+        ensures { λ r. ⌜ r ≡ isEvent self ⌝ }
+    {
+        self.type_number() == 9
+    }
+
     pub(crate) fn id_legal(self, id: u8) -> bool
         ensures { λ r. ⌜ r ≡ idLegal self id ⌝ }
     {
@@ -161,17 +125,16 @@ impl Kind {
     {
         match error {
             ErrorByte::Told(e) => self.error_range().contains(e as usize),
-            ErrorByte::NotTold => !self.is_ack(),
+            ErrorByte::NotTold => self.error_length() != 1,
         }
     }
 
-    // Whether a link that cannot carry "not told" can write this error: not a nack's where it is not told.
-    pub fn error_told(self, error: ErrorByte) -> bool
-        ensures { λ r. ⌜ r ≡ errorTold self error ⌝ }
+    pub(crate) fn told(self, error: ErrorByte) -> bool
+        ensures { λ r. ⌜ r ≡ told self error ⌝ }
     {
         match error {
             ErrorByte::Told(_) => true,
-            ErrorByte::NotTold => !self.is_nack(),
+            ErrorByte::NotTold => self.error_length() != 2,
         }
     }
 }

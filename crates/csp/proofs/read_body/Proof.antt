@@ -1,19 +1,26 @@
 -- Carried by the laws of the data: where its checks pass the payload starts within it.
 use borrow.Author.Needs.{needs}
-use mathlib.Core.Path.{_≡_, refl}
+use mathlib.Core.Path.{_≡_, refl, ap}
 use denote.Ref.{now}
+use lib.ListN.{length}
 use Rattle.message.specs.Answer.{failed, passed, number, verdictTold, readTold, within, counted, laid}
-use Rattle.message.specs.Body.{bodyChecks, bodyMessage}
-use Rattle.message.proofs.Parts.{part-from}
+use Rattle.message.specs.Body.{bodyMessage}
+use Rattle.message.specs.Checks.{bodyChecks}
+use Rattle.message.specs.Kinds.{errorLength, carried}
+use Rattle.message.specs.declared.Message.{Message}
 use Rattle.message.proofs.Bodies.{body-room, body-refused, body-given}
+use Rattle.message.proofs.Parts.{part-from}
 use Rattle.csp.proofs.read_body.Statement.{statement}
 use Rattle.csp.proofs.read_body.Tie as tie
 
-error-field-requires : tie.Need-error-field-requires
-error-field-requires c κs = search needs
+byte-or-zero-requires : tie.Need-byte-or-zero-requires
+byte-or-zero-requires c κs = search needs
 
-error-field-requires-2 : tie.Need-error-field-requires-2
-error-field-requires-2 c κs = search needs
+byte-or-zero-requires-2 : tie.Need-byte-or-zero-requires-2
+byte-or-zero-requires-2 c κs = search needs
+
+carried-requires : tie.Need-carried-requires
+carried-requires c κs = search needs
 
 check-body-requires : tie.Need-check-body-requires
 check-body-requires c κs = search needs
@@ -28,10 +35,14 @@ error-length-requires : tie.Need-error-length-requires
 error-length-requires c κs = search needs
 
 sub-read-payload : tie.Need-sub-read-payload
-sub-read-payload c = rw (c .error-length .ensures) (body-room _ _ _ _ _ (c .before .before .before .check-body .ensures) (c .before .enum-told .given .1))
+unfolding carried
+sub-read-payload c =
+    let m = c .before .before .before .before .carried in
+    let same : errorLength (m .result .kind) ≡ errorLength (c .before .before .before .before .before .before .before .before .before .args .kind) = ap (λ (x : Message). errorLength (x .kind)) (m .ensures) in
+    rw (c .error-length .ensures, ← same) (body-room _ _ _ (c .before .before .before .check-body .ensures) (c .before .enum-told .given .1))
 
 part-read-payload-start : tie.Need-part-read-payload-start
-part-read-payload-start c = rw (c .error-length .ensures) (body-room _ _ _ _ _ (c .before .before .before .check-body .ensures) (c .before .enum-told .given .1))
+part-read-payload-start c = sub-read-payload c
 
 part-read-payload-end : tie.Need-part-read-payload-end
 part-read-payload-end c = search needs
@@ -40,31 +51,38 @@ read-payload-requires : tie.Need-read-payload-requires
 read-payload-requires c κs = search needs
 
 returns : tie.Need-returns
-unfolding bodyChecks verdictTold within counted laid readTold
+unfolding bodyMessage verdictTold within counted laid readTold
 returns c =
-    let a = c .before .before .before .before .before .before .before .before .args in
-    let refuses : bodyChecks (a .kind) (a .id) (now (a .body)) ≡ failed (number (c .before .refusal .given .0 .0)) =
-    rw (← c .before .before .before .before .before .error-field .ensures, ← c .before .before .before .check-body .ensures, c .before .refusal .given .1) in
+    let a = c .before .before .before .before .before .before .before .before .before .args in
+    let m = c .before .before .before .before .carried in
+    let same : m .result ≡ bodyMessage (a .kind) (a .id) 0 0 (now (a .body)) =
+    rw (← c .before .before .before .before .before .before .byte-or-zero .ensures, ← c .before .before .before .before .before .byte-or-zero2 .ensures) (m .ensures) in
+    let refuses : bodyChecks (bodyMessage (a .kind) (a .id) 0 0 (now (a .body))) (length (now (a .body))) ≡ failed (number (c .before .refusal .given .0 .0)) =
+    rw (← same, ← c .before .before .before .check-body .ensures, c .before .refusal .given .1) in
     rw (body-refused (a .kind) (a .id) 0 0 (now (a .body)) _ refuses) (refl, refl)
 
 same-length : tie.Need-same-length
 same-length c = search needs
 
 returns-2 : tie.Need-returns-2
-unfolding bodyChecks bodyMessage verdictTold
+unfolding bodyMessage verdictTold
 returns-2 c =
-    let a = c .before .before .before .before .before .before .before .before .before .before .before .before .before .args in
-    let passes : bodyChecks (a .kind) (a .id) (now (a .body)) ≡ passed =
-    rw (← c .before .before .before .before .before .before .before .before .before .before .error-field .ensures, ← c .before .before .before .before .before .before .before .before .check-body .ensures, c .before .before .before .before .before .before .enum-told .given .1) in
-    rw (body-given (a .kind) (a .id) 0 0 (now (a .body)) passes, ← c .before .before .before .before .before .before .before .before .before .before .error-field .ensures, ← c .before .before .before .before .before .before .before .before .before .error-field2 .ensures, ← c .before .before .before .before .before .error-length .ensures)
+    let a = c .before .before .before .before .before .before .before .before .before .before .before .before .before .before .args in
+    let m = c .before .before .before .before .before .before .before .before .before .carried in
+    let same : m .result ≡ bodyMessage (a .kind) (a .id) 0 0 (now (a .body)) =
+    rw (← c .before .before .before .before .before .before .before .before .before .before .before .byte-or-zero .ensures, ← c .before .before .before .before .before .before .before .before .before .before .byte-or-zero2 .ensures) (m .ensures) in
+    let passes : bodyChecks (bodyMessage (a .kind) (a .id) 0 0 (now (a .body))) (length (now (a .body))) ≡ passed =
+    rw (← same, ← c .before .before .before .before .before .before .before .before .check-body .ensures, c .before .before .before .before .before .before .enum-told .given .1) in
+    rw (body-given (a .kind) (a .id) 0 0 (now (a .body)) passes, ← same, ← c .before .before .before .before .before .error-length .ensures)
     (rw part-from at (c .before .before .read-payload .ensures))
 
 pub read-body-spec : {M : Type 1} → statement M
 read-body-spec =
     tie.close
     (tie.spec
-    error-field-requires
-    error-field-requires-2
+    byte-or-zero-requires
+    byte-or-zero-requires-2
+    carried-requires
     check-body-requires
     enum-known-refusal
     enum-told

@@ -1,7 +1,7 @@
 -- Carried by the case of the error byte, and the kind's range.
 use borrow.Author.Needs.{needs}
 use Rattle.message.specs.Checks.{errorLegal}
-use Rattle.message.specs.Kinds.{inside}
+use Rattle.message.specs.Kinds.{inside, isAck}
 use Rattle.message.proofs.Kind.error_legal.Statement.{statement}
 use Rattle.message.proofs.Kind.error_legal.Tie as tie
 
@@ -20,16 +20,16 @@ contains-requires c κs = search needs
 enum-told : tie.Need-enum-told
 enum-told c = search needs
 
-is-ack-requires : tie.Need-is-ack-requires
-is-ack-requires c κs = search needs
+error-length-requires : tie.Need-error-length-requires
+error-length-requires c κs = search needs
 
 returns : tie.Need-returns
 unfolding errorLegal inside
-returns c = cc
+returns c = rw (c .before .before .before .error .given .1, ← c .before .error-range .ensures .0, ← c .before .error-range .ensures .1) (c .contains .ensures)
 
 returns-2 : tie.Need-returns-2
-unfolding errorLegal inside
-returns-2 c = cc
+unfolding errorLegal isAck
+returns-2 c = rw (c .before .enum-told .given .1, ← c .error-length .ensures)
 
 pub error-legal-spec : {M : Type 1} → statement M
 error-legal-spec =
@@ -40,6 +40,6 @@ error-legal-spec =
     cast-contains
     contains-requires
     enum-told
-    is-ack-requires
+    error-length-requires
     returns
     returns-2)

@@ -13,7 +13,7 @@ contains-requires c κs = search needs
 
 returns : tie.Need-returns
 unfolding idLegal inside
-returns c = cc
+returns c = rw (← c .before .id-range .ensures .0, ← c .before .id-range .ensures .1) (c .contains .ensures)
 
 pub id-legal-spec : {M : Type 1} → statement M
 id-legal-spec = tie.close (tie.spec id-range-requires contains-requires returns)

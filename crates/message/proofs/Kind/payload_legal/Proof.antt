@@ -13,7 +13,7 @@ contains-requires c κs = search needs
 
 returns : tie.Need-returns
 unfolding payloadLegal inside
-returns c = cc
+returns c = rw (← c .before .payload-range .ensures .0, ← c .before .payload-range .ensures .1) (c .contains .ensures)
 
 pub payload-legal-spec : {M : Type 1} → statement M
 payload-legal-spec = tie.close (tie.spec payload-range-requires contains-requires returns)

@@ -1,6 +1,6 @@
 -- Carried by the test of the length against what tells the error.
 use borrow.Author.Needs.{needs}
-use Rattle.message.specs.Body.{bodyFits}
+use Rattle.message.specs.Checks.{bodyFits}
 use borrow.Author.Tests.{le-leb, lt-leb}
 use Rattle.message.proofs.check.body_fits.Statement.{statement}
 use Rattle.message.proofs.check.body_fits.Tie as tie

@@ -1,5 +1,6 @@
 -- Carried by congruence with what the shared checks answer.
 use borrow.Author.Needs.{needs}
+use Rattle.message.specs.Checks.{bodyChecks}
 use Rattle.message.proofs.check.check_body.Statement.{statement}
 use Rattle.message.proofs.check.check_body.Tie as tie
 
@@ -10,7 +11,8 @@ check-fields-requires : tie.Need-check-fields-requires
 check-fields-requires c κs = search needs
 
 returns : tie.Need-returns
-returns c = cc
+unfolding bodyChecks
+returns c = rw (← c .before .body-fits .ensures) (c .check-fields .ensures)
 
 pub check-body-spec : {M : Type 1} → statement M
 check-body-spec = tie.close (tie.spec body-fits-requires check-fields-requires returns)
