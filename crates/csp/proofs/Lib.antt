@@ -1,1 +1,2 @@
 mod Heads
+pub mod RoundTrip

@@ -12,7 +12,7 @@ use lib.Seq.{drop-cons, take-suc, append-snoc, set-at, length-take-le, take-leng
 use Rattle.message.specs.declared.Refusal.{Refusal}
 use Rattle.message.specs.declared.WriteAnswer.{WriteAnswer}
 use Rattle.message.specs.declared.WriteAnswer.the-variants.{Refused, Length}
-use Rattle.message.specs.Answer.{number, writeTold, written, Answer, refused, given, require, after, within, counted, laid}
+use Rattle.message.specs.Answer.{Check, passed, failed, number, writeTold, written, Answer, refused, given, require, after, within, counted, laid}
 
 module _ {A : Type 0} (out : List ℕ) (a : A) (b : List ℕ) where
   pub too-short : length out < length b → within out (given a b) ≡ refused 8
@@ -46,6 +46,12 @@ pub refusal-leaves : {A : Type 0} (x : Answer A (List ℕ)) (n : ℕ) (out : Lis
 unfolding counted laid
 refusal-leaves (refused k) n out e = refl
 refusal-leaves (given a b) n out e = let z : _≡_ {A = ℕ} 0 1 = cc in absurd (omega arith)
+
+-- An answer behind checks is given exactly where they pass.
+pub after-given : {A : Type 0} (c : Check) (a a′ : A) (b b′ : List ℕ) → after c (given a b) ≡ given a′ b′ → (c ≡ passed) × (a ≡ a′) × (b ≡ b′)
+unfolding after
+after-given passed a a′ b b′ e = (refl, cc, cc)
+after-given (failed n) a a′ b b′ e = absurd (let z : _≡_ {A = ℕ} 0 1 = cc in omega arith)
 
 -- A turn of a loop that copies `bytes` over the start of `out`.
 pub copy-step : (bytes out : List ℕ) (i : ℕ) → i < length bytes → i < length out → set (take i bytes ++ drop i out) i (getD bytes i 0) ≡ take (i + 1) bytes ++ drop (i + 1) out

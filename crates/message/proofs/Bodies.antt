@@ -1,19 +1,28 @@
 -- The laws of the data that UART, RS485 and CSP share: what its checks say, and that reading and writing it are inverse.
-use Prim.Native.Nat.{ℕ, _-_, _≤_}
-use mathlib.Core.Path.{_≡_, refl}
-use mathlib.Core.Bool.{true}
-use mathlib.Core.List.{List}
-use borrow.Author.Tests.{leb-true}
-use lib.ListN.{length, drop}
+use Prim.Native.Nat.{ℕ, _+_, _-_, _≤_}
+use mathlib.Core.Path.{_≡_, refl, ap, _∙_}
+use mathlib.Core.Bool.{Bool, true, false, cond}
+use mathlib.Core.List.{List, [], _∷_, _++_}
+use native.Mathlib.Nat.{add-sub-cancel-left}
+use borrow.Author.Tests.{leb-true, le-leb}
+use lib.Dec.{leb}
+use lib.Seq.{drop-at}
+use native.Mathlib.Omega.{arith}
+use lib.ListN.{length, getD, take, drop, length-drop, length-append, length-take}
 use Rattle.message.specs.Answer.{verdictTold, passed, failed, refused, given, after}
-use Rattle.message.specs.Body.{bodyMessage, bodyRead}
-use Rattle.message.specs.Checks.{payloadLegal, bodyFits, bodyChecks}
-use Rattle.message.specs.Kinds.{errorLength}
+use Rattle.message.specs.Body.{errorNumber, errorBytes, bodyBytes, bodyMessage, bodyRead}
+use Rattle.message.specs.Checks.{payloadLegal, errorLegal, told, fieldChecks, bodyFits, bodyChecks}
+use Rattle.message.specs.Kinds.{inside, errorLength, isAck, isNack, carried}
+use Rattle.message.specs.declared.ErrorByte.{ErrorByte}
+use Rattle.message.specs.declared.ErrorByte.the-variants.{Told, NotTold}
 use Rattle.message.specs.declared.Kind.{Kind}
+use Rattle.message.specs.declared.Kind.the-variants.{Telecommand, TelecommandAck, TelecommandNack, TelemetryRequest, TelemetryResponse, TelemetryNack, Event}
 use Rattle.message.specs.declared.Message.{Message}
 use Rattle.message.specs.declared.Verdict.{Verdict}
 use Rattle.message.specs.declared.Verdict.the-variants.{Passed}
-use Rattle.message.proofs.Checks.{both-true, fields-passed}
+use Rattle.message.proofs.Answers.{after-given}
+use Rattle.message.proofs.Checks.{both-true, fields-passed, fields-pass}
+use Rattle.message.proofs.Tables.{error-length-two}
 
 -- Data of the right length holds what tells the error, and a payload that the kind can have.
 pub body-fits : (k : Kind) (n : ℕ) → bodyFits k n ≡ true → (errorLength k ≤ n) × (payloadLegal k (n - errorLength k) ≡ true)
@@ -35,3 +44,106 @@ module _ (k : Kind) (id s t : ℕ) (d : List ℕ) where
   pub body-given : bodyChecks (bodyMessage k id s t d) (length d) ≡ passed → bodyRead k id s t d ≡ given (bodyMessage k id s t d) (drop (errorLength k) d)
   unfolding bodyRead after
   body-given e = rw e
+
+-- The message at other addresses.
+abbrev pub at : Message → ℕ → ℕ → Message
+at m s t = record { kind = m .kind; id = m .id; source = s; destination = t; error = m .error; index = m .index }
+
+-- What tells the error reads back, by the kind.
+fields-again : (k : Kind) (id s t e i : ℕ) (p : List ℕ)
+    → bodyMessage k id s t (take (errorLength k) (e ∷ i ∷ []) ++ p) ≡ carried (record { kind = k; id = id; source = s; destination = t; error = Told e; index = i })
+unfolding bodyMessage carried
+fields-again Telecommand id s t e i p = refl
+fields-again TelecommandAck id s t e i p = refl
+fields-again TelecommandNack id s t e i p = refl
+fields-again TelemetryRequest id s t e i p = refl
+fields-again TelemetryResponse id s t e i p = refl
+fields-again TelemetryNack id s t e i p = refl
+fields-again Event id s t e i p = refl
+
+-- A legal error that a link can write is told wherever the kind carries one.
+carried-told : (k : Kind) (id s t : ℕ) (e : ErrorByte) (i : ℕ) → errorLegal k e ≡ true → told k e ≡ true
+    → carried (record { kind = k; id = id; source = s; destination = t; error = Told (errorNumber e); index = i }) ≡ carried (record { kind = k; id = id; source = s; destination = t; error = e; index = i })
+unfolding carried errorLegal told isAck isNack
+carried-told k id s t (Told e) i legal tells = refl
+carried-told Telecommand id s t NotTold i legal tells = refl
+carried-told TelecommandAck id s t NotTold i legal tells = absurd (let z : _≡_ {A = ℕ} 0 1 = cc in omega arith)
+carried-told TelecommandNack id s t NotTold i legal tells = absurd (let z : _≡_ {A = ℕ} 0 1 = cc in omega arith)
+carried-told TelemetryRequest id s t NotTold i legal tells = refl
+carried-told TelemetryResponse id s t NotTold i legal tells = refl
+carried-told TelemetryNack id s t NotTold i legal tells = absurd (let z : _≡_ {A = ℕ} 0 1 = cc in omega arith)
+carried-told Event id s t NotTold i legal tells = refl
+
+-- A legal error stays so where the kind drops it.
+carried-legal : (k : Kind) (e : ErrorByte) → errorLegal k e ≡ true → errorLegal k (cond (leb 1 (errorLength k)) e (Told 0)) ≡ true
+unfolding errorLegal inside
+carried-legal Telecommand e legal = refl
+carried-legal TelecommandAck e legal = legal
+carried-legal TelecommandNack e legal = legal
+carried-legal TelemetryRequest e legal = refl
+carried-legal TelemetryResponse e legal = refl
+carried-legal TelemetryNack e legal = legal
+carried-legal Event e legal = refl
+
+pub error-bytes-length : (m : Message) → length (errorBytes m) ≡ errorLength (m .kind)
+unfolding errorBytes
+error-bytes-length m = rw length-take (omega (arith, error-length-two (m .kind)))
+
+-- Data of a payload that the kind can have is of the right length.
+body-right : (m : Message) (p : List ℕ) → payloadLegal (m .kind) (length p) ≡ true → bodyFits (m .kind) (length (bodyBytes m p)) ≡ true
+unfolding bodyFits bodyBytes
+body-right m p legal =
+    let n = errorLength (m .kind) in
+    let long : n ≤ n + length p = omega arith in
+    rw (length-append, error-bytes-length m, le-leb _ _ long, add-sub-cancel-left) legal
+
+-- Reading data that was written returns what the kind carries, and the payload.
+pub body-written : (m : Message) (s t : ℕ) (p : List ℕ) → fieldChecks m (payloadLegal (m .kind) (length p)) ≡ passed → told (m .kind) (m .error) ≡ true
+    → bodyRead (m .kind) (m .id) s t (bodyBytes m p) ≡ given (carried (at m s t)) p
+unfolding bodyBytes errorBytes bodyChecks carried
+body-written m s t p checks tells =
+    let h = fields-passed m (payloadLegal (m .kind) (length p)) checks in
+    let d = bodyBytes m p in
+    let c = carried (at m s t) in
+    let same : bodyMessage (m .kind) (m .id) s t d ≡ c =
+    fields-again (m .kind) (m .id) s t (errorNumber (m .error)) (m .index) p ∙ carried-told (m .kind) (m .id) s t (m .error) (m .index) (h .2) tells in
+    let passes : bodyChecks (bodyMessage (m .kind) (m .id) s t d) (length d) ≡ passed =
+    rw same (fields-pass c (bodyFits (m .kind) (length d)) (h .0) (body-right m p (h .1)) (carried-legal (m .kind) (m .error) (h .2))) in
+    rw (body-given (m .kind) (m .id) s t d passes, same) (ap (given c) (drop-at (errorBytes m) p (errorLength (m .kind)) (error-bytes-length m)))
+
+-- What tells the error is written again as it was read, by the kind.
+bytes-again : (k : Kind) (id s t : ℕ) (d : List ℕ) → errorLength k ≤ length d → bodyBytes (bodyMessage k id s t d) (drop (errorLength k) d) ≡ d
+unfolding bodyBytes errorBytes bodyMessage carried
+bytes-again Telecommand id s t d h = refl
+bytes-again TelecommandAck id s t [] h = absurd (omega arith)
+bytes-again TelecommandAck id s t (x ∷ d) h = refl
+bytes-again TelecommandNack id s t [] h = absurd (omega arith)
+bytes-again TelecommandNack id s t (x ∷ []) h = absurd (omega arith)
+bytes-again TelecommandNack id s t (x ∷ y ∷ d) h = refl
+bytes-again TelemetryRequest id s t d h = refl
+bytes-again TelemetryResponse id s t d h = refl
+bytes-again TelemetryNack id s t [] h = absurd (omega arith)
+bytes-again TelemetryNack id s t (x ∷ []) h = absurd (omega arith)
+bytes-again TelemetryNack id s t (x ∷ y ∷ d) h = refl
+bytes-again Event id s t d h = refl
+
+-- An error that was read is told.
+read-told : (k : Kind) (b : Bool) (e : ℕ) → told k (cond b (Told e) (Told 0)) ≡ true
+unfolding told
+read-told k true e = refl
+read-told k false e = refl
+
+-- Writing data that was read returns it.
+pub body-read : (k : Kind) (id s t : ℕ) (d : List ℕ) (m : Message) (p : List ℕ) → bodyRead k id s t d ≡ given m p
+    → (bodyMessage k id s t d ≡ m) × (told (m .kind) (m .error) ≡ true) × (fieldChecks m (payloadLegal (m .kind) (length p)) ≡ passed) × (bodyBytes m p ≡ d)
+unfolding bodyRead bodyChecks bodyMessage carried
+body-read k id s t d m p e =
+    let c = bodyMessage k id s t d in
+    let g = after-given (bodyChecks c (length d)) c m (drop (errorLength k) d) p e in
+    let h = fields-passed c (bodyFits k (length d)) (g .0) in
+    let f = body-fits k (length d) (h .1) in (
+      g .1,
+      rw (← g .1) (read-told k (leb 1 (errorLength k)) (getD d 0 0)),
+      rw (← g .1, ← g .2) (fields-pass c _ (h .0) (rw length-drop (f .1)) (h .2)),
+      rw (← g .1, ← g .2) (bytes-again k id s t d (f .0)),
+    )

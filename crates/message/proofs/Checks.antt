@@ -4,7 +4,8 @@ use mathlib.Core.Path.{_≡_, refl}
 use mathlib.Core.Bool.{Bool, true, false, _&&_}
 use native.Mathlib.Omega.{arith}
 use Rattle.message.specs.Answer.{Check, passed, failed, require}
-use Rattle.message.specs.Checks.{idLegal, errorLegal, fieldChecks}
+use Rattle.message.specs.Checks.{idLegal, errorLegal, fieldChecks, told, writable}
+use Rattle.message.specs.Kinds.{isEvent}
 use Rattle.message.specs.declared.Message.{Message}
 
 pub require-passed : (t : Bool) (n : ℕ) (rest : Check) → require t n rest ≡ passed → (t ≡ true) × (rest ≡ passed)
@@ -27,3 +28,16 @@ module _ (m : Message) (fits : Bool) where
   pub fields-pass : idLegal (m .kind) (m .id) ≡ true → fits ≡ true → errorLegal (m .kind) (m .error) ≡ true → fieldChecks m fits ≡ passed
   unfolding fieldChecks require
   fields-pass h5 h6 h7 = rw (h5, h6, h7)
+
+-- A message is writable on a link without events and without "not told" exactly where it is neither.
+pub plain-writable : (m : Message) → writable (record { events = false; untold = false }) m ≡ true → (isEvent (m .kind) ≡ false) × (told (m .kind) (m .error) ≡ true)
+unfolding writable
+plain-writable m e = by (isEvent (m .kind)) refl
+  where
+    by : (b : Bool) → isEvent (m .kind) ≡ b → (isEvent (m .kind) ≡ false) × (told (m .kind) (m .error) ≡ true)
+    by true q = absurd (let z : _≡_ {A = ℕ} 0 1 = cc (rw q at e) in omega arith)
+    by false q = (q, rw q at e)
+
+pub writable-plain : (m : Message) → isEvent (m .kind) ≡ false → told (m .kind) (m .error) ≡ true → writable (record { events = false; untold = false }) m ≡ true
+unfolding writable
+writable-plain m h t = rw (h, t)
