@@ -1,0 +1,19 @@
+-- Carried by arithmetic: the sum of the places is the nested one.
+use borrow.Author.Needs.{needs}
+use native.Mathlib.Omega.{arith}
+use Rattle.little_endian.specs.LittleEndian.{fromBytes}
+use Rattle.little_endian.proofs.u16_from_bytes.Statement.{statement}
+use Rattle.little_endian.proofs.u16_from_bytes.Tie as tie
+
+mul-result : tie.Need-mul-result
+mul-result c = search needs
+
+add-result : tie.Need-add-result
+add-result c = search needs
+
+returns : tie.Need-returns
+unfolding fromBytes
+returns c = omega arith
+
+pub u16-from-bytes-spec : {M : Type 1} → statement M
+u16-from-bytes-spec = tie.close (tie.spec mul-result add-result returns)

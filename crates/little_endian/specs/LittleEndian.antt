@@ -1,0 +1,13 @@
+-- Document 01, "Messages": numbers of several bytes are little endian (house). One pair of definitions for every width.
+use Prim.Native.Nat.{ℕ, zero, suc, _+_, _*_, _/_, _%_}
+use mathlib.Core.List.{List, [], _∷_}
+
+-- The number that bytes stand for, the lowest first.
+unfoldable pub fromBytes : List ℕ → ℕ
+fromBytes [] = 0
+fromBytes (b ∷ bs) = b + 256 * fromBytes bs
+
+-- A number's lowest bytes, as many as the width says.
+unfoldable pub toBytes : ℕ → ℕ → List ℕ
+toBytes zero n = []
+toBytes (suc w) n = n % 256 ∷ toBytes w (n / 256)
