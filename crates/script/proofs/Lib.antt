@@ -1,0 +1,3 @@
+pub mod WordLaws
+pub mod DigitLaws
+pub mod NumberLaws
