@@ -1,3 +1,4 @@
 pub mod WordLaws
 pub mod DigitLaws
 pub mod NumberLaws
+pub mod HexLaws

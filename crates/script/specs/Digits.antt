@@ -1,5 +1,5 @@
 -- The digits of numbers and byte strings ("A script").
-use Prim.Native.Nat.{ℕ, _-_}
+use Prim.Native.Nat.{ℕ, _+_, _-_}
 use mathlib.Core.Bool.{Bool, true, cond, _&&_}
 use mathlib.Core.List.{List, [], _∷_}
 use lib.Dec.{leb, ltb}
@@ -25,3 +25,7 @@ isDigit base b = ltb (digitValue b) base
 unfoldable pub allDigits : ℕ → List ℕ → Bool
 allDigits base [] = true
 allDigits base (b ∷ s) = isDigit base b && allDigits base s
+
+-- The digit of a number below 16: "capital letters in what is printed".
+unfoldable pub digitOf : ℕ → ℕ
+digitOf n = cond (ltb n 10) (48 + n) (55 + n)

@@ -1,6 +1,7 @@
 // Single digits.
 ghost use mathlib.Core.Path.{_≡_};
-ghost use Rattle.script.specs.Digits.{digitValue};
+ghost use Prim.Native.Nat.{_<_};
+ghost use Rattle.script.specs.Digits.{digitValue, digitOf};
 
 // The value of a digit; 16 for a byte that is none.
 pub fn digit_value(b: u8) -> u8
@@ -12,4 +13,15 @@ pub fn digit_value(b: u8) -> u8
         b'a'..=b'f' => b - b'a' + 10,
         _ => 16,
     }
+}
+
+// The capital digit of a number.
+pub fn digit_of(n: u8) -> u8
+    requires { ⌜ n < 16 ⌝ }
+    ensures { λ r. ⌜ r ≡ digitOf n ⌝ }
+{
+    if n < 10 {
+        return b'0' + n;
+    }
+    b'A' + (n - 10)
 }

@@ -1,0 +1,51 @@
+-- The laws of byte strings: when an output takes them, and what one turn of storing leaves to be stored.
+use Prim.Native.Nat.{ℕ, suc, _+_, _*_, _/_, _%_, _≤_, _<_}
+use mathlib.Core.Path.{_≡_, refl}
+use mathlib.Core.List.{List, [], _∷_, _++_}
+use native.Mathlib.Numerals.{add-one}
+use native.Mathlib.Omega.{arith}
+use borrow.Author.Tests.{le-leb, lt-leb, eq-eqb, ne-eqb}
+use lib.ListN.{length, getD, set, drop, drop-of-length-le}
+use lib.Seq.{drop-cons, sets, sets-eq}
+use Rattle.script.specs.Digits.{digitValue, digitOf}
+use Rattle.script.specs.Hex.{hexDigits, printed, pairs, given, within, told, laid}
+use Rattle.script.specs.declared.HexAnswer.{HexAnswer}
+use Rattle.script.specs.declared.HexAnswer.the-variants.{Length, Bad}
+
+module _ (out b : List ℕ) where
+  -- An output that is too short stays as it came.
+  pub too-short : length out < length b → (Bad ≡ told (within out (given b))) × (out ≡ laid (within out (given b)) out)
+  unfolding within told laid
+  too-short h = rw (lt-leb (length b) (length out) h) (refl, refl)
+
+  -- Else stores from its start on lay the bytes over it.
+  pub long-enough : length b ≤ length out → (Length (length b) ≡ told (within out (given b))) × (sets out 0 b ≡ laid (within out (given b)) out)
+  unfolding within told laid
+  long-enough h =
+      let z : 0 + length b ≡ length b = omega arith in
+      rw (le-leb (length b) (length out) h) (refl, rw z at (sets-eq b out 0 (omega arith)))
+
+pub length-hexDigits : (s : List ℕ) → length (hexDigits s) ≡ length s * 2
+unfolding hexDigits
+length-hexDigits [] = refl
+length-hexDigits (b ∷ s) = omega (arith, length-hexDigits s)
+
+module _ (s : List ℕ) where
+  pub printed-none : length s ≡ 0 → printed s ≡ 45 ∷ []
+  unfolding printed
+  printed-none e = rw (eq-eqb (length s) 0 e)
+
+  pub printed-some : (length s ≡ 0 → ⊥) → printed s ≡ hexDigits s
+  unfolding printed
+  printed-some n = rw (ne-eqb (length s) 0 n)
+
+module _ (s out : List ℕ) (i : ℕ) where
+  pub print-turn : i < length s → sets out (i * 2) (hexDigits (drop i s)) ≡ sets (set (set out (i * 2) (digitOf (getD s i 0 / 16))) (i * 2 + 1) (digitOf (getD s i 0 % 16))) ((i + 1) * 2) (hexDigits (drop (i + 1) s))
+  unfolding hexDigits
+  print-turn h =
+      let e : (i + 1) * 2 ≡ suc (suc (i * 2)) = omega arith in
+      rw (e, add-one (i * 2), add-one i, drop-cons s i 0 h)
+
+  pub print-end : length s ≤ i → sets out (i * 2) (hexDigits (drop i s)) ≡ out
+  unfolding hexDigits
+  print-end h = rw (drop-of-length-le s h)
