@@ -3,10 +3,12 @@
 // The rules are definitions of `specs/`: `Words` (how a line splits), `Digits` (single digits), `Numbers` (decimal
 // numbers) and `Hex` (byte strings as they are printed and read, and what a lent output holds afterwards).
 mod digits;
+mod hex_read;
 mod hex_write;
 mod numbers;
 mod words;
 
+pub use hex_read::read_hex;
 pub use hex_write::write_hex;
 pub use numbers::number;
 pub use words::word;
