@@ -2,7 +2,7 @@
 use Prim.Native.Nat.{ℕ, suc, _+_, _*_, _/_, _%_, _≤_, _<_}
 use mathlib.Core.Path.{_≡_, refl}
 use mathlib.Core.Bool.{true, false, not, _&&_}
-use mathlib.Core.List.{List, [], _∷_, _++_}
+use mathlib.Core.List.{List, [], _∷_}
 use native.Mathlib.Numerals.{add-one}
 use native.Mathlib.Omega.{arith}
 use borrow.Author.Tests.{le-leb, lt-leb, eq-eqb, ne-eqb}
@@ -12,7 +12,6 @@ use lib.Seq.{drop-cons, sets, sets-eq}
 use Rattle.script.specs.Digits.{digitValue, digitOf, allDigits}
 use Rattle.script.proofs.DigitLaws.{and-right}
 use Rattle.script.specs.Hex.{hexDigits, printed, pairs, isDash, isHex, bad, given, readHex, within, told, laid}
-use Rattle.script.specs.declared.HexAnswer.{HexAnswer}
 use Rattle.script.specs.declared.HexAnswer.the-variants.{Length, Bad}
 
 module _ (out b : List ℕ) where

@@ -1,18 +1,15 @@
 -- The laws of reading a number: what the byte at place i makes of the answer from there on.
 use Prim.Native.Nat.{ℕ, _+_, _*_, _≤_, _<_}
-use mathlib.Core.Path.{_≡_, refl}
-use mathlib.Core.Bool.{Bool, true, false, cond, _&&_}
+use mathlib.Core.Path.{_≡_}
 use mathlib.Core.List.{List, [], _∷_}
 use native.Mathlib.Numerals.{add-one}
 use native.Mathlib.Omega.{arith}
 use borrow.Author.Tests.{le-leb, lt-leb, lt-ltb, le-ltb}
-use lib.Dec.{leb}
 use lib.ListN.{length, getD, drop, drop-of-length-le}
 use lib.Seq.{drop-cons}
 use Rattle.script.proofs.DigitLaws.{and-false}
 use Rattle.script.specs.Digits.{digitValue, isDigit, allDigits}
 use Rattle.script.specs.Numbers.{valueFrom, numberFrom}
-use Rattle.script.specs.declared.NumberAnswer.{NumberAnswer}
 use Rattle.script.specs.declared.NumberAnswer.the-variants.{Value, Bad}
 
 -- More digits never make a value smaller.

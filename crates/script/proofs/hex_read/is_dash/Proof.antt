@@ -1,7 +1,6 @@
 -- Carried by the tests of the length and of the one byte.
 use borrow.Author.Needs.{needs}
 use borrow.Author.Tests.{eq-eqb, ne-eqb}
-use lib.ListN.{length}
 use Rattle.script.specs.Hex.{isDash}
 use Rattle.script.proofs.hex_read.is_dash.Statement.{statement}
 use Rattle.script.proofs.hex_read.is_dash.Tie as tie

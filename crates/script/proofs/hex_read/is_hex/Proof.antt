@@ -1,7 +1,11 @@
 -- Carried by the tests of the length, and by what the digits' loop answers.
 use borrow.Author.Tests.{eq-eqb, ne-eqb}
 use Rattle.script.specs.Hex.{isHex}
+use Prim.Native.Nat.{_%_}
+use native.Mathlib.Omega.{arith}
 use borrow.Author.Needs.{needs}
+use lib.ListN.{length}
+use denote.Ref.{now}
 use Rattle.script.proofs.hex_read.is_hex.Statement.{statement}
 use Rattle.script.proofs.hex_read.is_hex.Tie as tie
 
@@ -11,7 +15,9 @@ returns c = rw (eq-eqb _ 0 (c .if1 .taken))
 
 returns-2 : tie.Need-returns-2
 unfolding isHex
-returns-2 c = rw (ne-eqb _ 0 (c .before .if1 .left), ne-eqb _ 0 (c .if2 .taken))
+returns-2 c =
+    let w = now (c .before .before .before .args .word) in
+    rw (ne-eqb (length w) 0 (omega arith), ne-eqb (length w % 2) 0 (omega arith))
 
 all-digits-requires : tie.Need-all-digits-requires
 all-digits-requires c κs = search needs

@@ -42,7 +42,8 @@ digit-value-requires-2 c κs = search needs
 mul-out : tie.Need-mul-out Inv-loop μ-loop
 mul-out c =
     let i = c .before .before .before .before .before .loop .i in
-    omega (arith, digit-at 16 (now (c .before .before .before .before .before .before .before .before .args .word)) (i * 2) (omega arith) (c .before .before .before .before .before .before .before .before .pre .0))
+    let digit = digit-at 16 (now (c .before .before .before .before .before .before .before .before .args .word)) in
+    omega (arith, digit (i * 2) (omega arith) (c .before .before .before .before .before .before .before .before .pre .0), digit (i * 2 + 1) (omega arith) (c .before .before .before .before .before .before .before .before .pre .0))
 
 add-out : tie.Need-add-out Inv-loop μ-loop
 add-out c =

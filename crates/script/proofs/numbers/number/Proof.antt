@@ -19,7 +19,7 @@ abbrev μ-loop : tie.MeasureT-loop
 
 returns : tie.Need-returns Inv-loop μ-loop
 unfolding numberOf
-returns c = rw (eq-eqb _ 0 (c .if1 .taken))
+returns c = rw (eq-eqb (length (now (c .before .before .args .word))) 0 (omega arith))
 
 loop-holds : tie.Need-loop-holds Inv-loop μ-loop
 unfolding numberOf

@@ -23,7 +23,10 @@ loop-holds c = search needs
 
 returns : tie.Need-returns Inv-loop μ-loop
 unfolding words
-returns c = let l = c .before .before .loop in (omega arith, (rw (c .if1 .taken) at (l .inv .1)))
+returns c =
+    let l = c .before .before .loop in
+    let here : l .left ≡ 0 = omega arith in
+    (omega arith, rw here at (l .inv .1))
 
 shared-slice-read-if2 : tie.Need-shared-slice-read-if2 Inv-loop μ-loop
 shared-slice-read-if2 c = search needs
