@@ -23,17 +23,17 @@ pub and-right : (t u : Bool) → t && u ≡ true → u ≡ true
 and-right t u e = rw (and-left t u e) at e
 
 module _ (b lo hi : ℕ) where
-  pub within : lo ≤ b → b ≤ hi → inside lo hi b ≡ true
+  pub in-range : lo ≤ b → b ≤ hi → inside lo hi b ≡ true
   unfolding inside
-  within p q = rw (le-leb lo b p, le-leb b hi q)
+  in-range p q = rw (le-leb lo b p, le-leb b hi q)
 
-  pub below : b < lo → inside lo hi b ≡ false
+  pub below-range : b < lo → inside lo hi b ≡ false
   unfolding inside
-  below p = rw (lt-leb lo b p)
+  below-range p = rw (lt-leb lo b p)
 
-  pub above : hi < b → inside lo hi b ≡ false
+  pub above-range : hi < b → inside lo hi b ≡ false
   unfolding inside
-  above p = rw (lt-leb b hi p) (and-false (leb lo b))
+  above-range p = rw (lt-leb b hi p) (and-false (leb lo b))
 
 module _ (base : ℕ) (s : List ℕ) (i : ℕ) (h : i < length s) where
   pub all-digit : digitValue (getD s i 0) < base → allDigits base (drop i s) ≡ allDigits base (drop (i + 1) s)

@@ -9,16 +9,16 @@ use lib.Dec.{ltb}
 use lib.ListN.{length, getD}
 use Rattle.script.specs.Digits.{digitValue, isDigit, allDigits, digitOf}
 use Rattle.script.specs.Hex.{hexDigits, printed, pairs, isDash, isHex, given, readHex}
-use Rattle.script.proofs.DigitLaws.{within, above}
+use Rattle.script.proofs.DigitLaws.{in-range, above-range}
 use Rattle.script.proofs.HexLaws.{length-hexDigits, printed-some, read-pairs}
 
 decimal-back : (n : ℕ) → n < 10 → digitValue (48 + n) ≡ n
 unfolding digitValue
-decimal-back n h = rw (within (48 + n) 48 57 (omega arith) (omega arith)) (omega arith)
+decimal-back n h = rw (in-range (48 + n) 48 57 (omega arith) (omega arith)) (omega arith)
 
 capital-back : (n : ℕ) → 10 ≤ n → n < 16 → digitValue (55 + n) ≡ n
 unfolding digitValue
-capital-back n l h = rw (above (55 + n) 48 57 (omega arith), within (55 + n) 65 70 (omega arith) (omega arith)) (omega arith)
+capital-back n l h = rw (above-range (55 + n) 48 57 (omega arith), in-range (55 + n) 65 70 (omega arith) (omega arith)) (omega arith)
 
 digit-back : (n : ℕ) → n < 16 → digitValue (digitOf n) ≡ n
 unfolding digitOf

@@ -1,6 +1,7 @@
 -- The laws of splitting a line: what the byte at place i makes of the words from there on.
 use Prim.Native.Nat.{ℕ, zero, suc, _+_, _-_, _≤_, _<_}
 use mathlib.Core.Path.{_≡_, refl, ap}
+use mathlib.Core.Bool.{Bool, true, false, cond}
 use mathlib.Core.List.{List, [], _∷_}
 use native.Mathlib.Numerals.{add-one}
 use native.Mathlib.Omega.{arith}
@@ -8,7 +9,6 @@ use borrow.Author.Tests.{eq-eqb, ne-eqb}
 use lib.Dec.{eqb}
 use lib.ListN.{length, getD, take, drop, drop-of-length-le, length-drop}
 use lib.Seq.{drop-cons, take-all}
-use mathlib.Core.Bool.{Bool, true, false, cond}
 use Rattle.script.specs.Words.{firstWord, laterWords, words}
 
 module _ (s : List ℕ) (i : ℕ) (h : i < length s) where

@@ -21,7 +21,7 @@ digitValue b =
 unfoldable pub isDigit : ℕ → ℕ → Bool
 isDigit base b = ltb (digitValue b) base
 
--- "Digits and nothing else."
+-- "Digits and nothing else": every byte is one.
 unfoldable pub allDigits : ℕ → List ℕ → Bool
 allDigits base [] = true
 allDigits base (b ∷ s) = isDigit base b && allDigits base s

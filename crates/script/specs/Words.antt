@@ -11,7 +11,6 @@ firstWord (b ∷ s) = cond (eqb b 32) [] (b ∷ firstWord s)
 
 -- The words after the first space. Every space ends a word, so two in a row have an empty word between them.
 unfoldable pub laterWords : List ℕ → List (List ℕ)
-unfolding firstWord
 laterWords [] = []
 laterWords (b ∷ s) = cond (eqb b 32) (firstWord s ∷ laterWords s) (laterWords s)
 

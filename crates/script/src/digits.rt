@@ -1,7 +1,6 @@
-// Single digits.
+// Single digits, as they are read.
 ghost use mathlib.Core.Path.{_≡_};
-ghost use Prim.Native.Nat.{_<_};
-ghost use Rattle.script.specs.Digits.{digitValue, digitOf};
+ghost use Rattle.script.specs.Digits.{digitValue};
 
 // The value of a digit; 16 for a byte that is none.
 pub fn digit_value(b: u8) -> u8
@@ -13,15 +12,4 @@ pub fn digit_value(b: u8) -> u8
         b'a'..=b'f' => b - b'a' + 10,
         _ => 16,
     }
-}
-
-// The capital digit of a number.
-pub fn digit_of(n: u8) -> u8
-    requires { ⌜ n < 16 ⌝ }
-    ensures { λ r. ⌜ r ≡ digitOf n ⌝ }
-{
-    if n < 10 {
-        return b'0' + n;
-    }
-    b'A' + (n - 10)
 }

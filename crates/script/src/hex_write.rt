@@ -1,11 +1,22 @@
 // Byte strings, printed.
 ghost use mathlib.Core.Path.{_≡_};
-ghost use Prim.Native.Nat.{_*_, _≤_};
+ghost use Prim.Native.Nat.{_*_, _≤_, _<_};
 ghost use lib.ListN.{length};
 ghost use lib.Seq.{sets};
+ghost use Rattle.script.specs.Digits.{digitOf};
 ghost use Rattle.script.specs.Hex.{hexDigits, printed, given, within, told, laid};
 use crate::HexAnswer;
-use crate::digits::digit_of;
+
+// The capital digit of a number.
+fn digit_of(n: u8) -> u8
+    requires { ⌜ n < 16 ⌝ }
+    ensures { λ r. ⌜ r ≡ digitOf n ⌝ }
+{
+    if n < 10 {
+        return b'0' + n;
+    }
+    b'A' + (n - 10)
+}
 
 // Stores the two digits of each byte, from the start of the output on.
 fn store_digits(bytes: &[u8], out: &mut [u8])

@@ -5,7 +5,7 @@ use crate::NumberAnswer;
 use crate::digits::digit_value;
 
 // The number that a word is, at most `most`. A word may have any number of zeros in front, so it is read digit by digit
-// up to its end, and left as soon as the value is too large to go on with.
+// and given up as soon as the value is beyond the limit.
 pub fn number(word: &[u8], most: u32) -> NumberAnswer
     ensures { λ r. ⌜ r ≡ numberOf most (now (word .entry)) ⌝ }
 {

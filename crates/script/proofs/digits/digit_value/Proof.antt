@@ -1,7 +1,7 @@
 -- Carried by the ranges: which of them the byte lies in, and that it lies in none before.
 use native.Mathlib.Omega.{arith}
 use Rattle.script.specs.Digits.{digitValue}
-use Rattle.script.proofs.DigitLaws.{within, below, above}
+use Rattle.script.proofs.DigitLaws.{in-range, below-range, above-range}
 use borrow.Author.Needs.{needs}
 use Rattle.script.proofs.digits.digit_value.Statement.{statement}
 use Rattle.script.proofs.digits.digit_value.Tie as tie
@@ -14,31 +14,31 @@ add-result-2 c = search needs
 
 returns : tie.Need-returns
 unfolding digitValue
-returns c = let b = c .before .before .args .b in rw (within b 48 57 (omega arith) (omega arith))
+returns c = let b = c .before .before .args .b in rw (in-range b 48 57 (omega arith) (omega arith))
 
 returns-2 : tie.Need-returns-2
 unfolding digitValue
-returns-2 c = let b = c .before .before .before .before .args .b in rw (above b 48 57 (omega arith), within b 65 70 (omega arith) (omega arith)) (omega arith)
+returns-2 c = let b = c .before .before .before .before .args .b in rw (above-range b 48 57 (omega arith), in-range b 65 70 (omega arith) (omega arith)) (omega arith)
 
 returns-3 : tie.Need-returns-3
 unfolding digitValue
-returns-3 c = let b = c .before .before .before .before .before .before .args .b in rw (above b 48 57 (omega arith), above b 65 70 (omega arith), within b 97 102 (omega arith) (omega arith)) (omega arith)
+returns-3 c = let b = c .before .before .before .before .before .before .args .b in rw (above-range b 48 57 (omega arith), above-range b 65 70 (omega arith), in-range b 97 102 (omega arith) (omega arith)) (omega arith)
 
 returns-4 : tie.Need-returns-4
 unfolding digitValue
-returns-4 c = let b = c .before .args .b in rw (below b 48 57 (omega arith), below b 65 70 (omega arith), below b 97 102 (omega arith))
+returns-4 c = let b = c .before .args .b in rw (below-range b 48 57 (omega arith), below-range b 65 70 (omega arith), below-range b 97 102 (omega arith))
 
 returns-5 : tie.Need-returns-5
 unfolding digitValue
-returns-5 c = let b = c .before .before .before .args .b in rw (above b 48 57 (omega arith), below b 65 70 (omega arith), below b 97 102 (omega arith))
+returns-5 c = let b = c .before .before .before .args .b in rw (above-range b 48 57 (omega arith), below-range b 65 70 (omega arith), below-range b 97 102 (omega arith))
 
 returns-6 : tie.Need-returns-6
 unfolding digitValue
-returns-6 c = let b = c .before .before .before .before .before .args .b in rw (above b 48 57 (omega arith), above b 65 70 (omega arith), below b 97 102 (omega arith))
+returns-6 c = let b = c .before .before .before .before .before .args .b in rw (above-range b 48 57 (omega arith), above-range b 65 70 (omega arith), below-range b 97 102 (omega arith))
 
 returns-7 : tie.Need-returns-7
 unfolding digitValue
-returns-7 c = let b = c .before .before .before .before .before .before .args .b in rw (above b 48 57 (omega arith), above b 65 70 (omega arith), above b 97 102 (omega arith))
+returns-7 c = let b = c .before .before .before .before .before .before .args .b in rw (above-range b 48 57 (omega arith), above-range b 65 70 (omega arith), above-range b 97 102 (omega arith))
 
 pub digit-value-spec : {M : Type 1} → statement M
 digit-value-spec =

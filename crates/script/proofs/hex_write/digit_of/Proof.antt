@@ -3,8 +3,8 @@ use native.Mathlib.Omega.{arith}
 use borrow.Author.Tests.{lt-ltb, le-ltb}
 use Rattle.script.specs.Digits.{digitOf}
 use borrow.Author.Needs.{needs}
-use Rattle.script.proofs.digits.digit_of.Statement.{statement}
-use Rattle.script.proofs.digits.digit_of.Tie as tie
+use Rattle.script.proofs.hex_write.digit_of.Statement.{statement}
+use Rattle.script.proofs.hex_write.digit_of.Tie as tie
 
 add-result : tie.Need-add-result
 add-result c = search needs
