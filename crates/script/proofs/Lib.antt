@@ -1,0 +1,5 @@
+pub mod WordLaws
+pub mod DigitLaws
+pub mod NumberLaws
+pub mod HexLaws
+pub mod RoundTrip
