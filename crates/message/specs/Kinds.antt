@@ -13,10 +13,10 @@ use Rattle.message.specs.declared.TypeKind.the-variants.{Known, Unknown}
 infix 20 _to_
 -- From the first number to the second, both included.
 abbrev pub _to_ : ℕ → ℕ → Range
-low to high = record { low = low; high = high }
+low to high = record { 0 = low; 1 = high }
 
 unfoldable pub inside : Range → ℕ → Bool
-inside r n = leb (r .low) n && leb n (r .high)
+inside r n = leb (r .0) n && leb n (r .1)
 
 -- "Messages": telecommand kinds have ID 0..127, telemetry kinds 128..254. An event's ID isn't looked at: any byte.
 abbrev pub idRange : Kind → Range

@@ -6,69 +6,57 @@ use crate::ErrorByte;
 use crate::Kind;
 use crate::TypeKind;
 
-// From low to high, both included.
-pub struct Range {
-    pub low: usize,
-    pub high: usize,
-}
+// From the first to the second, both included.
+pub struct Range(pub usize, pub usize);
 
 impl Range {
     fn contains(self, n: usize) -> bool
         ensures { λ r. ⌜ r ≡ inside self n ⌝ }
     {
-        self.low <= n && n <= self.high
+        self.0 <= n && n <= self.1
     }
 }
 
 impl Kind {
     fn id_range(self) -> Range
-        ensures { λ r. ⌜ (r .low ≡ idRange self .low) × (r .high ≡ idRange self .high) ⌝ }
+        ensures { λ r. ⌜ (r .0 ≡ idRange self .0) × (r .1 ≡ idRange self .1) ⌝ }
     {
         match self {
-            Kind::Telecommand => Range { low: 0, high: 127 },
-            Kind::TelecommandAck => Range { low: 0, high: 127 },
-            Kind::TelecommandNack => Range { low: 0, high: 127 },
-            Kind::TelemetryRequest => Range {
-                low: 128,
-                high: 254,
-            },
-            Kind::TelemetryResponse => Range {
-                low: 128,
-                high: 254,
-            },
-            Kind::TelemetryNack => Range {
-                low: 128,
-                high: 254,
-            },
-            Kind::Event => Range { low: 0, high: 255 },
+            Kind::Telecommand => Range(0, 127),
+            Kind::TelecommandAck => Range(0, 127),
+            Kind::TelecommandNack => Range(0, 127),
+            Kind::TelemetryRequest => Range(128, 254),
+            Kind::TelemetryResponse => Range(128, 254),
+            Kind::TelemetryNack => Range(128, 254),
+            Kind::Event => Range(0, 255),
         }
     }
 
     fn payload_range(self) -> Range
-        ensures { λ r. ⌜ (r .low ≡ payloadRange self .low) × (r .high ≡ payloadRange self .high) ⌝ }
+        ensures { λ r. ⌜ (r .0 ≡ payloadRange self .0) × (r .1 ≡ payloadRange self .1) ⌝ }
     {
         match self {
-            Kind::Telecommand => Range { low: 0, high: 256 },
-            Kind::TelecommandAck => Range { low: 0, high: 0 },
-            Kind::TelecommandNack => Range { low: 0, high: 0 },
-            Kind::TelemetryRequest => Range { low: 0, high: 0 },
-            Kind::TelemetryResponse => Range { low: 0, high: 256 },
-            Kind::TelemetryNack => Range { low: 0, high: 0 },
-            Kind::Event => Range { low: 24, high: 24 },
+            Kind::Telecommand => Range(0, 256),
+            Kind::TelecommandAck => Range(0, 0),
+            Kind::TelecommandNack => Range(0, 0),
+            Kind::TelemetryRequest => Range(0, 0),
+            Kind::TelemetryResponse => Range(0, 256),
+            Kind::TelemetryNack => Range(0, 0),
+            Kind::Event => Range(24, 24),
         }
     }
 
     fn error_range(self) -> Range
-        ensures { λ r. ⌜ (r .low ≡ errorRange self .low) × (r .high ≡ errorRange self .high) ⌝ }
+        ensures { λ r. ⌜ (r .0 ≡ errorRange self .0) × (r .1 ≡ errorRange self .1) ⌝ }
     {
         match self {
-            Kind::Telecommand => Range { low: 0, high: 255 },
-            Kind::TelecommandAck => Range { low: 0, high: 0 },
-            Kind::TelecommandNack => Range { low: 1, high: 10 },
-            Kind::TelemetryRequest => Range { low: 0, high: 255 },
-            Kind::TelemetryResponse => Range { low: 0, high: 255 },
-            Kind::TelemetryNack => Range { low: 1, high: 10 },
-            Kind::Event => Range { low: 0, high: 255 },
+            Kind::Telecommand => Range(0, 255),
+            Kind::TelecommandAck => Range(0, 0),
+            Kind::TelecommandNack => Range(1, 10),
+            Kind::TelemetryRequest => Range(0, 255),
+            Kind::TelemetryResponse => Range(0, 255),
+            Kind::TelemetryNack => Range(1, 10),
+            Kind::Event => Range(0, 255),
         }
     }
 
