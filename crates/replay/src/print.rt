@@ -1,10 +1,10 @@
 // What replay prints.
+use digits::HexAnswer;
 use libc::STDOUT_FILENO;
 use message::ErrorByte;
 use message::Kind;
 use message::Message;
 use message::Refusal;
-use script::HexAnswer;
 
 pub fn text(bytes: &[u8]) {
     io::write_all(STDOUT_FILENO, bytes);
@@ -24,7 +24,7 @@ fn next(n: u8) {
 pub fn output(out: &[u8]) {
     let mut space = [0u8; 2048];
     text(b" ");
-    if let HexAnswer::Length(n) = script::write_hex(out, &mut space) {
+    if let HexAnswer::Length(n) = digits::write_hex(out, &mut space) {
         text(crate::input::front(&space, n));
     }
     text(b"\n");

@@ -1,0 +1,52 @@
+-- The laws of digits: when a byte lies in a range, and what the byte at place i makes of the digits from there on.
+use Prim.Native.Nat.{ℕ, zero, suc, _+_, _≤_, _<_}
+use mathlib.Core.Path.{_≡_, refl}
+use mathlib.Core.Bool.{Bool, true, false, _&&_}
+use mathlib.Core.List.{List, [], _∷_}
+use native.Mathlib.Numerals.{add-one}
+use native.Mathlib.Omega.{arith}
+use borrow.Author.Tests.{le-leb, lt-leb, lt-ltb, le-ltb, ltb-true}
+use lib.Dec.{leb}
+use lib.ListN.{length, getD, drop}
+use lib.Seq.{drop-cons}
+use Rattle.digits.specs.Digits.{inside, digitValue, isDigit, allDigits}
+
+pub and-false : (t : Bool) → t && false ≡ false
+and-false true = refl
+and-false false = refl
+
+pub and-left : (t u : Bool) → t && u ≡ true → t ≡ true
+and-left true u e = refl
+and-left false u e = e
+
+pub and-right : (t u : Bool) → t && u ≡ true → u ≡ true
+and-right t u e = rw (and-left t u e) at e
+
+module _ (b lo hi : ℕ) where
+  pub in-range : lo ≤ b → b ≤ hi → inside lo hi b ≡ true
+  unfolding inside
+  in-range p q = rw (le-leb lo b p, le-leb b hi q)
+
+  pub below-range : b < lo → inside lo hi b ≡ false
+  unfolding inside
+  below-range p = rw (lt-leb lo b p)
+
+  pub above-range : hi < b → inside lo hi b ≡ false
+  unfolding inside
+  above-range p = rw (lt-leb b hi p) (and-false (leb lo b))
+
+module _ (base : ℕ) (s : List ℕ) (i : ℕ) (h : i < length s) where
+  pub all-digit : digitValue (getD s i 0) < base → allDigits base (drop i s) ≡ allDigits base (drop (i + 1) s)
+  unfolding allDigits isDigit
+  all-digit d = rw (add-one, drop-cons s i 0, lt-ltb (digitValue (getD s i 0)) base d)
+
+  pub all-other : base ≤ digitValue (getD s i 0) → allDigits base (drop i s) ≡ false
+  unfolding allDigits isDigit
+  all-other d = rw (drop-cons s i 0, le-ltb (digitValue (getD s i 0)) base d)
+
+-- Where all are digits, each is one.
+pub digit-at : (base : ℕ) (s : List ℕ) (i : ℕ) → i < length s → allDigits base s ≡ true → digitValue (getD s i 0) < base
+unfolding allDigits isDigit
+digit-at base [] i h e = absurd (omega arith)
+digit-at base (b ∷ s) zero h e = ltb-true (digitValue b) base (and-left (isDigit base b) (allDigits base s) e)
+digit-at base (b ∷ s) (suc i) h e = digit-at base s i (omega arith) (and-right (isDigit base b) (allDigits base s) e)

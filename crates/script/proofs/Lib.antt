@@ -1,5 +1,0 @@
-pub mod WordLaws
-pub mod DigitLaws
-pub mod NumberLaws
-pub mod HexLaws
-pub mod RoundTrip

@@ -1,4 +1,0 @@
-pub mod Words
-pub mod Digits
-pub mod Numbers
-pub mod Hex
