@@ -53,6 +53,11 @@ unfolding after
 after-given passed a a′ b b′ e = (refl, cc, cc)
 after-given (failed n) a a′ b b′ e = absurd (let z : _≡_ {A = ℕ} 0 1 = cc in omega arith)
 
+pub after-passed : {A : Type 0} (c : Check) (x : Answer A (List ℕ)) (a : A) (b : List ℕ) → after c x ≡ given a b → (c ≡ passed) × (x ≡ given a b)
+unfolding after
+after-passed passed x a b e = (refl, e)
+after-passed (failed n) x a b e = absurd (let z : _≡_ {A = ℕ} 0 1 = cc in omega arith)
+
 -- A turn of a loop that copies `bytes` over the start of `out`.
 pub copy-step : (bytes out : List ℕ) (i : ℕ) → i < length bytes → i < length out → set (take i bytes ++ drop i out) i (getD bytes i 0) ≡ take (i + 1) bytes ++ drop (i + 1) out
 copy-step bytes out i h k =

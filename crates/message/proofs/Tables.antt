@@ -34,27 +34,28 @@ kind-of-type TelemetryResponse h = refl
 kind-of-type TelemetryNack h = refl
 kind-of-type Event h = absurd (let z : _≡_ {A = ℕ} 0 1 = cc in omega arith)
 
--- And the other way round: the kind that a number stands for has that number, and is no event.
+-- A row of a table by number, in front of the others: the entry is this row's, or one of theirs.
+pub by-row : {A P : Type 0} (t n : ℕ) (x rest y : A) → (t ≡ n → x ≡ y → P) → (rest ≡ y → P) → cond (eqb t n) x rest ≡ y → P
+by-row {A} {P} t n x rest y found others e = by (eqb t n) refl
+  where
+    by : (b : Bool) → eqb t n ≡ b → P
+    by true q = found (eqb-true t n q) (rw q at e)
+    by false q = others (rw q at e)
+
+-- The kind that a number stands for has that number, and is no event.
 pub type-of-kind : (t : ℕ) (k : Kind) → typeKind t ≡ Known k → (typeNumber k ≡ t) × (isEvent k ≡ false)
 unfolding typeKind isEvent
 type-of-kind t k e =
-    row 1 Telecommand refl refl (row 2 TelecommandAck refl refl (row 3 TelecommandNack refl refl
-    (row 4 TelemetryRequest refl refl (row 5 TelemetryResponse refl refl (row 6 TelemetryNack refl refl none)))))
+    by-row t 1 _ _ _ (found Telecommand refl refl) (by-row t 2 _ _ _ (found TelecommandAck refl refl)
+    (by-row t 3 _ _ _ (found TelecommandNack refl refl) (by-row t 4 _ _ _ (found TelemetryRequest refl refl)
+    (by-row t 5 _ _ _ (found TelemetryResponse refl refl) (by-row t 6 _ _ _ (found TelemetryNack refl refl) none)))))
     e
   where
     Found : Type 0
     Found = (typeNumber k ≡ t) × (isEvent k ≡ false)
 
-    none : Unknown ≡ Known k → Found
-    none e = absurd (let z : _≡_ {A = ℕ} 0 1 = cc in omega arith)
+    found : (k₁ : Kind) {n : ℕ} → typeNumber k₁ ≡ n → isEvent k₁ ≡ false → t ≡ n → Known k₁ ≡ Known k → Found
+    found k₁ hn he ht f = let g : k ≡ k₁ = cc in rw g (hn ∙ sym ht, he)
 
-    -- one row of the table in front of the others
-    row : (n : ℕ) (k₁ : Kind) → typeNumber k₁ ≡ n → isEvent k₁ ≡ false → {rest : TypeKind} → (rest ≡ Known k → Found) → cond (eqb t n) (Known k₁) rest ≡ Known k → Found
-    row n k₁ hn he {rest} more e = by (eqb t n) refl
-      where
-        by : (b : Bool) → eqb t n ≡ b → Found
-        by true q =
-            let f : Known k₁ ≡ Known k = rw q at e in
-            let g : k ≡ k₁ = cc in
-            rw g (hn ∙ sym (eqb-true t n q), he)
-        by false q = more (rw q at e)
+    none : Unknown ≡ Known k → Found
+    none f = absurd (let z : _≡_ {A = ℕ} 0 1 = cc in omega arith)

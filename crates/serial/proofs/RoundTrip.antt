@@ -1,0 +1,166 @@
+-- Both round trips of the serial links (demand 2): doubling undoes the scan, the fields in front of the data stand in their places, and
+-- the data goes as on every link that carries the error byte.
+use Prim.Native.Nat.{ℕ, _+_, _≤_}
+use mathlib.Core.Bool.{Bool, true, false}
+use mathlib.Core.List.{List, [], _∷_, _++_}
+use mathlib.Core.Path.{_≡_, refl, ap, sym, _∙_}
+use native.Mathlib.Omega.{arith}
+use borrow.Author.Tests.{le-leb, eq-eqb, eqb-true, leb-true}
+use lib.Dec.{leb, eqb}
+use lib.ListN.{length, drop, length-append}
+use lib.Seq.{drop-length}
+use Rattle.message.specs.Answer.{Answer, refused, given, passed, require, after, written}
+use Rattle.message.specs.Body.{errorBytes, bodyBytes, bodyMessage, bodyRead}
+use Rattle.message.specs.Checks.{idLegal, payloadLegal, errorLegal, fieldChecks, told, writable, writeChecks}
+use Rattle.message.specs.Kinds.{inside, carried}
+use Rattle.message.specs.declared.Kind.{Kind}
+use Rattle.message.specs.declared.Kind.the-variants as Kind·of
+use Rattle.message.specs.declared.Message.{Message}
+use Rattle.message.proofs.Answers.{after-given, after-passed}
+use Rattle.message.proofs.Bodies.{body-written, body-read}
+use Rattle.message.proofs.Checks.{require-passed, fields-passed, fields-pass}
+use Rattle.serial.specs.Stuffing.{doubled, scan}
+use Rattle.serial.specs.Frames.{startByte, startRow, rowOf, kindOf, headLength, idField, addressField, sourceLegal, sourced, identified, frameBody, closed, started, frameRead, carries, headFields, frameBytes, frameWrite, idCarried, addressCarried, frameCarried}
+use Rattle.serial.specs.declared.IdKind.{IdKind}
+use Rattle.serial.specs.declared.IdKind.the-variants as IdKind·of
+use Rattle.serial.specs.declared.Row.{Row}
+use Rattle.serial.specs.declared.Stop.{Stop}
+use Rattle.serial.specs.declared.Stop.the-variants.{Ended, Broken, Cut}
+use Rattle.serial.specs.declared.StartRow.{StartRow}
+use Rattle.serial.specs.declared.StartRow.the-variants as StartRow·of
+use Rattle.serial.specs.declared.SerialLink.{SerialLink}
+use Rattle.serial.specs.declared.SerialLink.the-variants.{Uart, Rs485}
+use Rattle.serial.proofs.Scans.{scan-doubled, doubled-scan}
+use Rattle.serial.proofs.Tables.{Has, row-of-start, start-of-row, fields-again, fields-length, kind-of-id, row-of-kind, written-row, read-writable, body-again}
+
+-- A frame around a doubled body reads as that body.
+frame-around : (l : SerialLink) (r : Row) (d : List ℕ) → Has l r → frameRead l (0x1F ∷ startByte l r ∷ (doubled d ++ (0x1F ∷ 0xFF ∷ []))) ≡ frameBody l r d
+unfolding frameRead started closed require after
+frame-around l r d has =
+    let s = doubled d ++ (0x1F ∷ 0xFF ∷ []) in
+    let one : 1 ≤ length (0x1F ∷ startByte l r ∷ s) = omega arith in
+    let two : 2 ≤ length (0x1F ∷ startByte l r ∷ s) = omega arith in
+    let size : length (doubled d) + 2 ≡ length s = rw length-append in
+    rw (le-leb _ _ one, le-leb _ _ two, row-of-start l r has, scan-doubled d [], eq-eqb _ _ size)
+
+-- A body of the fields in front of the data and the data reads as the data.
+body-around : (l : SerialLink) (m : Message) (q : List ℕ) → Has l (rowOf (m .kind)) → idLegal (m .kind) (m .id) ≡ true
+    → frameBody l (rowOf (m .kind)) (headFields l (rowOf (m .kind)) m ++ q)
+    ≡ sourced l (bodyRead (m .kind) (idCarried (rowOf (m .kind)) (m .id)) (addressCarried l (m .source)) (addressCarried l (m .destination)) q)
+unfolding frameBody identified require after
+body-around l m q has legal =
+    let r = rowOf (m .kind) in
+    let f = fields-again l r m q has in
+    let long : headLength l r ≤ length (headFields l r m ++ q) = rw (length-append, fields-length l r m) (omega arith) in
+    rw (le-leb _ _ long, f .0, f .1, f .2, f .3, kind-of-id (m .kind) (m .id) legal)
+
+-- What is carried of a legal field is legal.
+id-carried : (k : Kind) (id : ℕ) → idLegal k id ≡ true → idLegal k (idCarried (rowOf k) id) ≡ true
+unfolding idLegal inside idCarried
+id-carried Kind·of.Telecommand id h = h
+id-carried Kind·of.TelecommandAck id h = h
+id-carried Kind·of.TelecommandNack id h = h
+id-carried Kind·of.TelemetryRequest id h = h
+id-carried Kind·of.TelemetryResponse id h = h
+id-carried Kind·of.TelemetryNack id h = h
+id-carried Kind·of.Event id h = refl
+
+source-carried : (l : SerialLink) (s : ℕ) → sourceLegal l s ≡ true → sourceLegal l (addressCarried l s) ≡ true
+unfolding sourceLegal addressCarried
+source-carried Uart s h = refl
+source-carried Rs485 s h = h
+
+-- Reading what was written returns every carried field and the payload.
+pub written-reads : (l : SerialLink) (m : Message) (p b : List ℕ) → frameWrite l m p ≡ written b → frameRead l b ≡ given (frameCarried l m) p
+unfolding frameWrite frameBytes frameCarried carried bodyBytes errorBytes writeChecks sourced require after
+written-reads l m p b e =
+    let w = after-passed (writeChecks (carries l) m (length p)) _ tt b e in
+    let v = after-given (require (sourceLegal l (m .source)) 7 passed) tt tt (frameBytes l m p) b (w .1) in
+    let c = require-passed (writable (carries l) m) 9 _ (w .0) in
+    let row = written-row l m (c .0) in
+    let h = fields-passed m (payloadLegal (m .kind) (length p)) (c .1) in
+    let r = rowOf (m .kind) in
+    let s = addressCarried l (m .source) in
+    let t = addressCarried l (m .destination) in
+    let m′ : Message =
+    record { kind = m .kind; id = idCarried r (m .id); source = s; destination = t; error = m .error; index = m .index } in
+    let checks : fieldChecks m′ (payloadLegal (m .kind) (length p)) ≡ passed =
+    fields-pass m′ (payloadLegal (m .kind) (length p)) (id-carried (m .kind) (m .id) (h .0)) (h .1) (h .2) in
+    let source = source-carried l (m .source) (require-passed (sourceLegal l (m .source)) 7 passed (v .0) .0) in
+    rw (← v .2, frame-around l r (headFields l r m ++ bodyBytes m p) (row .0), body-around l m (bodyBytes m p) (row .0) (h .0), body-written m′ s t p checks (row .1), source)
+
+sourced-given : (l : SerialLink) (x : Answer Message (List ℕ)) (m : Message) (p : List ℕ) → sourced l x ≡ given m p → (x ≡ given m p) × (sourceLegal l (m .source) ≡ true)
+unfolding sourced
+sourced-given l (refused n) m p e = absurd (let z : _≡_ {A = ℕ} 0 1 = cc in omega arith)
+sourced-given l (given m′ p′) m p e =
+    let g = after-given (require (sourceLegal l (m′ .source)) 7 passed) m′ m p′ p e in
+    (rw (g .1, g .2), rw (← g .1) (require-passed (sourceLegal l (m′ .source)) 7 passed (g .0) .0))
+
+-- Writing what was read returns the bytes: first from the kind that the ID decided for,
+kind-writes : (l : SerialLink) (r : Row) (d : List ℕ) (m : Message) (p : List ℕ) (k : Kind) → Has l r → headLength l r ≤ length d → kindOf r (idField r d) ≡ IdKind·of.Known k
+    → sourced l (bodyRead k (idField r d) (addressField l d 1) (addressField l d 2) (drop (headLength l r) d)) ≡ given m p
+    → frameWrite l m p ≡ written (0x1F ∷ startByte l r ∷ (doubled d ++ (0x1F ∷ 0xFF ∷ [])))
+unfolding frameWrite frameBytes writeChecks bodyMessage carried require after
+kind-writes l r d m p k has long q e =
+    let y = sourced-given l _ m p e in
+    let z = body-read k _ _ _ _ m p (y .0) in
+    let row : rowOf (m .kind) ≡ r = ap (λ (c : Message). rowOf (c .kind)) (sym (z .0)) ∙ row-of-kind r (idField r d) k q in
+    let able : writable (carries l) m ≡ true = read-writable l m (rw row has) (z .1) in
+    let passes : writeChecks (carries l) m (length p) ≡ passed = rw able (z .2) in
+    let body : headFields l r m ++ bodyBytes m p ≡ d =
+    rw (z .3) (body-again l r d m has long (ap (λ (c : Message). c .id) (sym (z .0))) (ap (λ (c : Message). c .source) (sym (z .0))) (ap (λ (c : Message). c .destination) (sym (z .0)))) in
+    rw (passes, y .1, row, body)
+
+-- then from the body,
+body-writes : (l : SerialLink) (r : Row) (d : List ℕ) (m : Message) (p : List ℕ) → Has l r → frameBody l r d ≡ given m p
+    → frameWrite l m p ≡ written (0x1F ∷ startByte l r ∷ (doubled d ++ (0x1F ∷ 0xFF ∷ [])))
+unfolding frameBody identified
+body-writes l r d m p has e = by (kindOf r (idField r d)) refl
+  where
+    f : (require (leb (headLength l r) (length d)) 6 passed ≡ passed) × (identified l (kindOf r (idField r d)) (idField r d) (addressField l d 1) (addressField l d 2) (drop (headLength l r) d) ≡ given m p)
+    f = after-passed (require (leb (headLength l r) (length d)) 6 passed) _ m p e
+
+    by : (x : IdKind) → kindOf r (idField r d) ≡ x → frameWrite l m p ≡ written (0x1F ∷ startByte l r ∷ (doubled d ++ (0x1F ∷ 0xFF ∷ [])))
+    by IdKind·of.Unknown q = absurd (let z : _≡_ {A = ℕ} 0 1 = cc (rw q at (f .1)) in omega arith)
+    by (IdKind·of.Known k) q =
+        kind-writes l r d m p k has (leb-true _ _ (require-passed (leb (headLength l r) (length d)) 6 passed (f .0) .0)) q (rw q at (f .1))
+
+-- then from a start byte of the link,
+row-writes : (l : SerialLink) (r : Row) (s : List ℕ) (m : Message) (p : List ℕ) → Has l r → closed l r (scan s .stop) (scan s .passed) (length s) (scan s .body) ≡ given m p
+    → frameWrite l m p ≡ written (0x1F ∷ startByte l r ∷ s)
+unfolding closed
+row-writes l r s m p has e = by (scan s .stop) refl
+  where
+    by : (x : Stop) → scan s .stop ≡ x → frameWrite l m p ≡ written (0x1F ∷ startByte l r ∷ s)
+    by Cut q = absurd (let z : _≡_ {A = ℕ} 0 1 = cc (rw q at e) in omega arith)
+    by Broken q = absurd (let z : _≡_ {A = ℕ} 0 1 = cc (rw q at e) in omega arith)
+    by Ended q =
+        let f = after-passed (require (eqb (scan s .passed) (length s)) 4 passed) (frameBody l r (scan s .body)) m p (rw q at e) in
+        let all : scan s .passed ≡ length s = eqb-true _ _ (require-passed (eqb (scan s .passed) (length s)) 4 passed (f .0) .0) in
+        let tail : s ≡ doubled (scan s .body) ++ (0x1F ∷ 0xFF ∷ []) =
+        doubled-scan s q ∙ rw (all, drop-length) in
+        body-writes l r (scan s .body) m p has (f .1) ∙ ap (λ (x : List ℕ). written (0x1F ∷ startByte l r ∷ x)) (sym tail)
+
+-- then from any bytes.
+pub read-writes : (l : SerialLink) (b : List ℕ) (m : Message) (p : List ℕ) → frameRead l b ≡ given m p → frameWrite l m p ≡ written b
+unfolding frameRead started require after
+read-writes l [] m p e = absurd (let z : _≡_ {A = ℕ} 0 1 = cc in omega arith)
+read-writes l (x ∷ []) m p e = by (eqb x 0x1F) refl
+  where
+    by : (t : Bool) → eqb x 0x1F ≡ t → frameWrite l m p ≡ written (x ∷ [])
+    by true q = absurd (let z : _≡_ {A = ℕ} 0 1 = cc (rw q at e) in omega arith)
+    by false q = absurd (let z : _≡_ {A = ℕ} 0 1 = cc (rw q at e) in omega arith)
+read-writes l (x ∷ y ∷ s) m p e = by (eqb x 0x1F) refl (startRow l y) refl
+  where
+    one : 1 ≤ length (x ∷ y ∷ s)
+    one = omega arith
+
+    two : 2 ≤ length (x ∷ y ∷ s)
+    two = omega arith
+
+    by : (t : Bool) → eqb x 0x1F ≡ t → (w : StartRow) → startRow l y ≡ w → frameWrite l m p ≡ written (x ∷ y ∷ s)
+    by false q w v = absurd (let z : _≡_ {A = ℕ} 0 1 = cc (rw (le-leb _ _ one, q) at e) in omega arith)
+    by true q StartRow·of.Unknown v = absurd (let z : _≡_ {A = ℕ} 0 1 = cc (rw (le-leb _ _ one, q, le-leb _ _ two, v) at e) in omega arith)
+    by true q (StartRow·of.Known r) v =
+        let g = start-of-row l y r v in
+        rw (eqb-true x 0x1F q, ← g .0) (row-writes l r s m p (g .1) (rw (le-leb _ _ one, q, le-leb _ _ two, v) at e))

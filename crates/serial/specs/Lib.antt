@@ -1,0 +1,2 @@
+pub mod Stuffing
+pub mod Frames
