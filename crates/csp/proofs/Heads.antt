@@ -1,12 +1,12 @@
 -- A payload laid behind its head, and the head stored then, are the message's bytes over the start of the output.
 use Prim.Native.Nat.{ℕ, _+_, _≤_, _<_}
-use mathlib.Core.Path.{_≡_, refl, ap, sym, _∙_}
+use mathlib.Core.Path.{_≡_, refl}
 use mathlib.Core.List.{List, _++_, append-assoc}
 use native.Mathlib.Nat.{zero-add}
 use native.Mathlib.Omega.{arith}
 use lib.ListN.{length, take, drop, length-append, length-take, length-drop, take-append-drop}
 use lib.Seq.{sets, sets-eq, drop-at, drop-drop, length-take-le}
-use Rattle.message.specs.Answer.{Answer, refused, given, number, writeTold, within, counted, laid, written}
+use Rattle.message.specs.Answer.{refused, given, number, writeTold, within, counted, laid, written}
 use Rattle.message.specs.Body.{errorBytes}
 use Rattle.message.specs.Kinds.{errorLength}
 use Rattle.message.specs.declared.Message.{Message}

@@ -1,14 +1,13 @@
 -- Both round trips of CSP (demand 2): those of the data, behind the type and the ID.
 use Prim.Native.Nat.{ℕ, _≤_}
-use mathlib.Core.Bool.{true}
 use mathlib.Core.List.{List, [], _∷_, _++_}
-use mathlib.Core.Path.{_≡_, refl, ap, sym, _∙_}
+use mathlib.Core.Path.{_≡_, refl, ap, sym}
 use native.Mathlib.Omega.{arith}
 use borrow.Author.Tests.{le-leb}
 use lib.ListN.{length}
-use Rattle.message.specs.Answer.{Answer, refused, given, passed, require, after, written}
+use Rattle.message.specs.Answer.{given, passed, require, after, written}
 use Rattle.message.specs.Body.{bodyBytes, bodyMessage, bodyRead}
-use Rattle.message.specs.Checks.{writable, fieldChecks, payloadLegal, writeChecks}
+use Rattle.message.specs.Checks.{writable, writeChecks}
 use Rattle.message.specs.Kinds.{typeNumber, typeKind, carried}
 use Rattle.message.specs.declared.Kind.{Kind}
 use Rattle.message.specs.declared.Message.{Message}

@@ -3,7 +3,7 @@ use Prim.Native.Nat.{ℕ}
 use mathlib.Core.Path.{_≡_, refl}
 use mathlib.Core.Bool.{Bool, true, false, _&&_}
 use native.Mathlib.Omega.{arith}
-use Rattle.message.specs.Answer.{Check, passed, failed, require}
+use Rattle.message.specs.Answer.{Check, passed, require}
 use Rattle.message.specs.Checks.{idLegal, errorLegal, fieldChecks, told, writable}
 use Rattle.message.specs.Kinds.{isEvent}
 use Rattle.message.specs.declared.Message.{Message}

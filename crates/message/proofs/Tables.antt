@@ -1,13 +1,11 @@
 -- The laws of the kinds' tables, by the kind.
 use Prim.Native.Nat.{ℕ, _≤_}
 use mathlib.Core.Bool.{Bool, true, false, cond}
-use mathlib.Core.List.{List, [], _∷_, _++_}
-use mathlib.Core.Logic.{_⊎_, inl, inr, ⊎-elim}
-use mathlib.Core.Path.{_≡_, refl, sym, _∙_, ap}
+use mathlib.Core.Path.{_≡_, refl, sym, _∙_}
 use native.Mathlib.Omega.{arith}
 use borrow.Author.Tests.{eqb-true}
-use lib.Dec.{eqb, leb}
-use Rattle.message.specs.Kinds.{errorLength, typeNumber, typeKind, isEvent, carried}
+use lib.Dec.{eqb}
+use Rattle.message.specs.Kinds.{errorLength, typeNumber, typeKind, isEvent}
 use Rattle.message.specs.declared.Kind.{Kind}
 use Rattle.message.specs.declared.Kind.the-variants.{Telecommand, TelecommandAck, TelecommandNack, TelemetryRequest, TelemetryResponse, TelemetryNack, Event}
 use Rattle.message.specs.declared.TypeKind.{TypeKind}

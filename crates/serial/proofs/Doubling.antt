@@ -2,13 +2,13 @@
 use Prim.Native.Nat.{ℕ, suc, _+_, _≤_, _<_}
 use mathlib.Core.Bool.{Bool, true, false}
 use mathlib.Core.List.{List, [], _∷_, _++_}
-use mathlib.Core.Path.{_≡_, refl}
-use native.Mathlib.Nat.{add-zero}
+use mathlib.Core.Path.{_≡_, refl, _∙_}
+use native.Mathlib.Nat.{add-zero, zero-add}
 use native.Mathlib.Numerals.{add-one}
 use native.Mathlib.Omega.{arith}
 use lib.Dec.{eqb}
 use lib.ListN.{length, getD, set, drop, length-append, drop-of-length-le}
-use lib.Seq.{sets, drop-cons}
+use lib.Seq.{sets, sets-eq, drop-cons}
 use Rattle.serial.specs.Stuffing.{doubled}
 
 pub doubled-append : (a b : List ℕ) → doubled (a ++ b) ≡ doubled a ++ doubled b
@@ -69,3 +69,7 @@ pub put-more : (a b out mid left : List ℕ) (at m n : ℕ) → Put out at a m m
 put-more a b out mid left at m n p q =
     rw (q .0, q .1, p .0, p .1, doubled-append a b)
     (rw length-append (omega arith), sets-append out at (doubled a) (doubled b))
+
+-- Stores from the start on lay the bytes over an output that is long enough.
+pub sets-start : (b out : List ℕ) → length b ≤ length out → sets out 0 b ≡ b ++ drop (length b) out
+sets-start b out h = sets-eq b out 0 (omega arith) ∙ rw zero-add

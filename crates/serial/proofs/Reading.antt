@@ -2,11 +2,11 @@
 use Prim.Native.Nat.{ℕ, _+_, _-_}
 use mathlib.Core.Bool.{true, false}
 use mathlib.Core.List.{List}
-use mathlib.Core.Path.{_≡_, refl, ap, sym, _∙_}
+use mathlib.Core.Path.{_≡_, ap, sym}
 use native.Mathlib.Nat.{add-zero}
 use lib.ListN.{length, getD, drop, length-drop}
 use lib.Seq.{getD-drop, drop-drop}
-use Rattle.message.specs.Answer.{Answer, refused, given, passed, failed, require, after}
+use Rattle.message.specs.Answer.{refused, given, passed, failed, require, after}
 use Rattle.message.specs.Body.{bodyMessage, bodyRead}
 use Rattle.message.specs.Checks.{bodyChecks}
 use Rattle.message.specs.Kinds.{errorLength, carried}

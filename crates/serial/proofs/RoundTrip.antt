@@ -11,7 +11,7 @@ use lib.ListN.{length, drop, length-append}
 use lib.Seq.{drop-length}
 use Rattle.message.specs.Answer.{Answer, refused, given, passed, require, after, written}
 use Rattle.message.specs.Body.{errorBytes, bodyBytes, bodyMessage, bodyRead}
-use Rattle.message.specs.Checks.{idLegal, payloadLegal, errorLegal, fieldChecks, told, writable, writeChecks}
+use Rattle.message.specs.Checks.{idLegal, payloadLegal, fieldChecks, writable, writeChecks}
 use Rattle.message.specs.Kinds.{inside, carried}
 use Rattle.message.specs.declared.Kind.{Kind}
 use Rattle.message.specs.declared.Kind.the-variants as Kind·of

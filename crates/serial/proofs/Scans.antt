@@ -1,9 +1,9 @@
 -- The laws of doubling and scanning, by the steps of the scan: a doubled body scans to that body, and what scans to a body is that body
 -- doubled.
 use Prim.Native.Nat.{ℕ, suc, _+_, _≤_, _<_}
-use mathlib.Core.Bool.{Bool, true, false, cond}
-use mathlib.Core.List.{List, [], _∷_, _++_, append-assoc}
-use mathlib.Core.Path.{_≡_, refl, ap, sym, _∙_}
+use mathlib.Core.Bool.{Bool, true, false}
+use mathlib.Core.List.{List, [], _∷_, _++_}
+use mathlib.Core.Path.{_≡_, refl, ap, sym}
 use native.Mathlib.Numerals.{add-one}
 use native.Mathlib.Omega.{arith}
 use borrow.Author.Tests.{eqb-true, ne-eqb}
@@ -12,7 +12,7 @@ use lib.ListN.{length, getD, drop, drop-of-length-le}
 use lib.Seq.{drop-cons}
 use Rattle.serial.specs.Stuffing.{doubled, Scan, scan, escaped, stopped, more}
 use Rattle.serial.specs.declared.Stop.{Stop}
-use Rattle.serial.specs.declared.Stop.the-variants.{Ended, Broken, Cut}
+use Rattle.serial.specs.declared.Stop.the-variants.{Ended, Cut}
 
 -- A plain byte in front.
 pub scan-plain : (b : ℕ) (s : List ℕ) → eqb b 0x1F ≡ false → scan (b ∷ s) ≡ more b 1 (scan s)

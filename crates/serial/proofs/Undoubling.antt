@@ -1,46 +1,37 @@
 -- The steps of a scan at a place of the bytes, by the first two bytes there: a plain byte, a doubled ESC, the tail.
 use Prim.Native.Nat.{ℕ, _+_, _≤_, _<_}
 use mathlib.Core.Bool.{Bool, true, false}
-use mathlib.Core.List.{List, [], _∷_, _++_}
+use mathlib.Core.List.{List, [], _∷_}
 use mathlib.Core.Path.{_≡_, refl, ap, sym, _∙_}
-use native.Mathlib.Nat.{add-zero, zero-add}
+use native.Mathlib.Nat.{add-zero}
 use native.Mathlib.Numerals.{add-one}
 use native.Mathlib.Omega.{arith}
-use borrow.Author.Tests.{eqb-true, eqb-false, ne-eqb, ltb-true, ltb-false}
+use borrow.Author.Tests.{eqb-true, eqb-false, ltb-true, ltb-false}
 use lib.Dec.{eqb, ltb}
-use lib.ListN.{length, getD, set, drop, drop-of-length-le, length-drop, length-set}
-use lib.Seq.{drop-cons, getD-drop, sets, sets-eq}
-use Rattle.serial.proofs.Scans.{scan-plain, scan-escaped}
+use lib.ListN.{length, getD, set, drop, length-drop, length-set}
+use lib.Seq.{drop-cons, getD-drop, sets}
+use Rattle.serial.proofs.Scans.{step-plain, step-escaped, step-cut, step-end}
 use Rattle.serial.specs.Stuffing.{Scan, scan, escaped, stopped, more}
 use Rattle.serial.specs.declared.Stop.{Stop}
 use Rattle.serial.specs.declared.Stop.the-variants.{Ended, Broken, Cut}
 
--- The bytes behind a place, with the first of them apart.
-front : (b : List ℕ) (i : ℕ) → i < length b → drop i b ≡ getD b i 0 ∷ drop (i + 1) b
-front b i h = rw (add-one, drop-cons b i 0) refl
-
 -- Where a scan isn't cut at once there is a byte, and behind an ESC another.
 module _ (b : List ℕ) (i : ℕ) (not-cut : scan (drop i b) ≡ stopped Cut 0 → ⊥) where
   inside : i < length b
-  unfolding scan
   inside = by (ltb i (length b)) refl
     where
       by : (t : Bool) → ltb i (length b) ≡ t → i < length b
       by true q = ltb-true _ _ q
-      by false q = absurd (not-cut (ap scan (drop-of-length-le b (ltb-false _ _ q))))
+      by false q = absurd (not-cut (step-end b i (ltb-false _ _ q)))
 
   escape : getD b i 0 ≡ 0x1F → (i + 1 < length b) × (scan (drop i b) ≡ escaped (getD b (i + 1) 0) (scan (drop (i + 2) b)))
-  unfolding scan
   escape e = by (ltb (i + 1) (length b)) refl
     where
       by : (t : Bool) → ltb (i + 1) (length b) ≡ t → (i + 1 < length b) × (scan (drop i b) ≡ escaped (getD b (i + 1) 0) (scan (drop (i + 2) b)))
-      by true q =
-          let h : i + 1 < length b = ltb-true _ _ q in
-          let s : i + 1 + 1 ≡ i + 2 = omega arith in
-          (h, rw (front b i inside, e, front b (i + 1) h, s) (scan-escaped (getD b (i + 1) 0) (drop (i + 2) b)))
+      by true q = let h : i + 1 < length b = ltb-true _ _ q in (h, step-escaped b i h e)
       by false q =
           let h : length b ≤ i + 1 = ltb-false _ _ q in
-          absurd (not-cut (rw (front b i inside, e, drop-of-length-le b h)))
+          absurd (not-cut (step-cut b i (omega (arith, inside)) e))
 
 -- The unit at a place is k bytes long, and stands for its first byte.
 pub record UnitAt (b : List ℕ) (i k : ℕ) : Type 0 where
@@ -49,7 +40,7 @@ pub record UnitAt (b : List ℕ) (i k : ℕ) : Type 0 where
 
 module _ (b : List ℕ) (i : ℕ) where
   pub plain-unit : i < length b → (getD b i 0 ≡ 0x1F → ⊥) → UnitAt b i 1
-  plain-unit h ne = record { scanned = rw (front b i h) (scan-plain _ _ (ne-eqb (getD b i 0) 0x1F ne)); fits = omega arith }
+  plain-unit h ne = record { scanned = step-plain b i h ne; fits = omega arith }
 
   -- An ESC where the scan doesn't stop is doubled.
   doubled-unit : (scan (drop i b) ≡ stopped Cut 0 → ⊥) → (scan (drop i b) ≡ stopped Broken 0 → ⊥) → (getD b (i + 1) 0 ≡ 0xFF → scan (drop i b) ≡ stopped Ended 2 → ⊥) → getD b i 0 ≡ 0x1F → UnitAt b i 2
@@ -153,7 +144,3 @@ module _ (b whole out : List ℕ) (at to : ℕ) (h : Storing b whole out at to) 
 
   pub store-tail : getD b (at + 1) 0 ≡ 0xFF → out ≡ whole
   store-tail q = rw (ended-tail b at (h .0) e q) at (h .2)
-
--- A run of stores over the start.
-pub sets-start : (v out : List ℕ) → length v ≤ length out → sets out 0 v ≡ v ++ drop (length v) out
-sets-start v out h = sets-eq v out 0 (omega arith) ∙ rw zero-add

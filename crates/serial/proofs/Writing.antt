@@ -6,8 +6,8 @@ use native.Mathlib.Numerals.{add-one}
 use native.Mathlib.Omega.{arith}
 use borrow.Author.Tests.{leb-true}
 use lib.Dec.{leb}
-use lib.ListN.{length, set, drop, length-append, length-set}
-use lib.Seq.{sets, sets-eq, length-sets, take-all}
+use lib.ListN.{length, set, length-append, length-set}
+use lib.Seq.{sets, length-sets, take-all}
 use Rattle.message.specs.Answer.{passed}
 use Rattle.message.specs.Body.{errorNumber, errorBytes, bodyBytes}
 use Rattle.message.specs.Checks.{payloadLegal, writeChecks}
@@ -106,13 +106,6 @@ module _ (l : SerialLink) (m : Message) (p : List ℕ) where
         kept = rw (put .1) (length-sets start 2 (doubled body) ∙ simp length-set);
         whole = rw (frame-parts, add-one, put .0, put .1) (sets-append start 2 (doubled body) (0x1F ∷ 0xFF ∷ []));
       }
-
--- Bytes stored from the start on are bytes over the start.
-pub sets-start : (b out : List ℕ) → length b ≤ length out → sets out 0 b ≡ b ++ drop (length b) out
-sets-start b out h =
-    let start : 0 + length b ≡ length b = omega arith in
-    let fits : 0 + length b ≤ length out = omega arith in
-    rw (sets-eq b out 0 fits, start)
 
 -- A payload that passes the checks has at most 256 bytes.
 most : (k : Kind) → payloadRange k .1 ≤ 256

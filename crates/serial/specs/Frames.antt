@@ -12,7 +12,7 @@ use Rattle.message.specs.declared.Carries.{Carries}
 use Rattle.message.specs.declared.Kind.{Kind}
 use Rattle.message.specs.declared.Kind.the-variants as Kind·of
 use Rattle.message.specs.declared.Message.{Message}
-use Rattle.serial.specs.Stuffing.{doubled, Scan, scan}
+use Rattle.serial.specs.Stuffing.{doubled, scan}
 use Rattle.serial.specs.declared.IdKind.{IdKind}
 use Rattle.serial.specs.declared.IdKind.the-variants as IdKind·of
 use Rattle.serial.specs.declared.Row.{Row}
