@@ -1,11 +1,16 @@
 -- The laws of a row of checks: it passes exactly where each of its tests holds.
-use Prim.Native.Nat.{ℕ}
+use Prim.Native.Nat.{ℕ, _≤_}
 use mathlib.Core.Path.{_≡_, refl}
 use mathlib.Core.Bool.{Bool, true, false, _&&_}
 use native.Mathlib.Omega.{arith}
+use borrow.Author.Tests.{leb-true}
+use lib.Dec.{leb}
 use Rattle.message.specs.Answer.{Check, passed, require}
-use Rattle.message.specs.Checks.{idLegal, errorLegal, fieldChecks, told, writable}
-use Rattle.message.specs.Kinds.{isEvent}
+use Rattle.message.specs.Checks.{idLegal, payloadLegal, errorLegal, fieldChecks, told, writable, writeChecks}
+use Rattle.message.specs.Kinds.{inside, payloadRange, isEvent}
+use Rattle.message.specs.declared.Carries.{Carries}
+use Rattle.message.specs.declared.Kind.{Kind}
+use Rattle.message.specs.declared.Kind.the-variants as Kind·of
 use Rattle.message.specs.declared.Message.{Message}
 
 pub require-passed : (t : Bool) (n : ℕ) (rest : Check) → require t n rest ≡ passed → (t ≡ true) × (rest ≡ passed)
@@ -41,3 +46,20 @@ plain-writable m e = by (isEvent (m .kind)) refl
 pub writable-plain : (m : Message) → isEvent (m .kind) ≡ false → told (m .kind) (m .error) ≡ true → writable (record { events = false; untold = false }) m ≡ true
 unfolding writable
 writable-plain m h t = rw (h, t)
+
+-- A payload that passes the checks has at most 256 bytes.
+most : (k : Kind) → payloadRange k .1 ≤ 256
+most Kind·of.Telecommand = omega arith
+most Kind·of.TelecommandAck = omega arith
+most Kind·of.TelecommandNack = omega arith
+most Kind·of.TelemetryRequest = omega arith
+most Kind·of.TelemetryResponse = omega arith
+most Kind·of.TelemetryNack = omega arith
+most Kind·of.Event = omega arith
+
+pub payload-most : (c : Carries) (m : Message) (n : ℕ) → writeChecks c m n ≡ passed → n ≤ 256
+unfolding writeChecks payloadLegal inside
+payload-most c m n e =
+    let fields = fields-passed m (payloadLegal (m .kind) n) (require-passed _ 9 _ e .1) in
+    let range = payloadRange (m .kind) in
+    omega (arith, leb-true n (range .1) (both-true (leb (range .0) n) (leb n (range .1)) (fields .1) .1), most (m .kind))

@@ -3,3 +3,4 @@ pub mod Checks
 pub mod Bodies
 pub mod Tables
 pub mod Parts
+pub mod Stores

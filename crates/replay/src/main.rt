@@ -1,6 +1,6 @@
 // replay: puts the library's calls on text lines. It reads a script from standard input, one call to a line, makes the
-// call and writes one line for it to standard output. So far the calls are `read` and `write` on UART,
-// RS485 and CSP.
+// call and writes one line for it to standard output. So far the calls are `read` and `write` on the
+// four links.
 mod call;
 mod input;
 mod print;

@@ -2,13 +2,13 @@
 use Prim.Native.Nat.{ℕ, suc, _+_, _≤_, _<_}
 use mathlib.Core.Bool.{Bool, true, false}
 use mathlib.Core.List.{List, [], _∷_, _++_}
-use mathlib.Core.Path.{_≡_, refl, _∙_}
-use native.Mathlib.Nat.{add-zero, zero-add}
+use mathlib.Core.Path.{_≡_, refl}
 use native.Mathlib.Numerals.{add-one}
 use native.Mathlib.Omega.{arith}
 use lib.Dec.{eqb}
-use lib.ListN.{length, getD, set, drop, length-append, drop-of-length-le}
-use lib.Seq.{sets, sets-eq, drop-cons}
+use lib.ListN.{length, getD, drop, length-append, drop-of-length-le}
+use lib.Seq.{sets, drop-cons}
+use Rattle.message.proofs.Stores.{sets-append}
 use Rattle.serial.specs.Stuffing.{doubled}
 
 pub doubled-append : (a b : List ℕ) → doubled (a ++ b) ≡ doubled a ++ doubled b
@@ -50,13 +50,6 @@ module _ (s : List ℕ) (i : ℕ) where
   unfolding doubled
   doubled-end h = rw (drop-of-length-le s h)
 
--- A run of stores goes on where it stopped.
-pub sets-append : (l : List ℕ) (i : ℕ) (a b : List ℕ) → sets (sets l i a) (i + length a) b ≡ sets l i (a ++ b)
-sets-append l i [] b = rw add-zero
-sets-append l i (x ∷ a) b =
-    let next : i + suc (length a) ≡ suc i + length a = omega arith in
-    rw next (sets-append (set l i x) (suc i) a b)
-
 -- A byte in front.
 pub length-first : (b : ℕ) (s : List ℕ) → length (doubled (b ∷ s)) ≡ length (doubled (b ∷ [])) + length (doubled s)
 length-first b s = rw (doubled-append (b ∷ []) s, length-append)
@@ -69,7 +62,3 @@ pub put-more : (a b out mid left : List ℕ) (at m n : ℕ) → Put out at a m m
 put-more a b out mid left at m n p q =
     rw (q .0, q .1, p .0, p .1, doubled-append a b)
     (rw length-append (omega arith), sets-append out at (doubled a) (doubled b))
-
--- Stores from the start on lay the bytes over an output that is long enough.
-pub sets-start : (b out : List ℕ) → length b ≤ length out → sets out 0 b ≡ b ++ drop (length b) out
-sets-start b out h = sets-eq b out 0 (omega arith) ∙ rw zero-add

@@ -1,29 +1,24 @@
 -- The laws of a frame's parts: which fields it has, its length, and what a run of stores leaves.
-use Prim.Native.Nat.{ℕ, zero, suc, _+_, _≤_}
+use Prim.Native.Nat.{ℕ, zero, suc, _+_}
 use mathlib.Core.List.{List, [], _∷_, _++_, append-assoc}
 use mathlib.Core.Path.{_≡_, refl, _∙_}
 use native.Mathlib.Numerals.{add-one}
 use native.Mathlib.Omega.{arith}
-use borrow.Author.Tests.{leb-true}
-use lib.Dec.{leb}
 use lib.ListN.{length, set, length-append, length-set}
 use lib.Seq.{sets, length-sets, take-all}
-use Rattle.message.specs.Answer.{passed}
 use Rattle.message.specs.Body.{errorNumber, errorBytes, bodyBytes}
-use Rattle.message.specs.Checks.{payloadLegal, writeChecks}
-use Rattle.message.specs.Kinds.{inside, errorLength, payloadRange}
-use Rattle.message.specs.declared.Carries.{Carries}
+use Rattle.message.specs.Kinds.{errorLength}
 use Rattle.message.specs.declared.Kind.{Kind}
 use Rattle.message.specs.declared.Kind.the-variants as Kind·of
 use Rattle.message.specs.declared.Message.{Message}
-use Rattle.message.proofs.Checks.{require-passed, both-true, fields-passed}
 use Rattle.serial.specs.Frames.{startByte, rowOf, headLength, headFields, frameBytes}
 use Rattle.serial.specs.Stuffing.{doubled}
 use Rattle.serial.specs.declared.Row.{Row}
 use Rattle.serial.specs.declared.Row.the-variants.{Request, Reply, Nack, Event}
 use Rattle.serial.specs.declared.SerialLink.{SerialLink}
 use Rattle.serial.specs.declared.SerialLink.the-variants.{Uart, Rs485}
-use Rattle.serial.proofs.Doubling.{doubled-append, sets-append, Put, put-more}
+use Rattle.message.proofs.Stores.{sets-append}
+use Rattle.serial.proofs.Doubling.{doubled-append, Put, put-more}
 
 -- The fields by their count: none, the ID, or the ID and both addresses.
 abbrev fieldsOf : ℕ → Message → List ℕ
@@ -106,20 +101,3 @@ module _ (l : SerialLink) (m : Message) (p : List ℕ) where
         kept = rw (put .1) (length-sets start 2 (doubled body) ∙ simp length-set);
         whole = rw (frame-parts, add-one, put .0, put .1) (sets-append start 2 (doubled body) (0x1F ∷ 0xFF ∷ []));
       }
-
--- A payload that passes the checks has at most 256 bytes.
-most : (k : Kind) → payloadRange k .1 ≤ 256
-most Kind·of.Telecommand = omega arith
-most Kind·of.TelecommandAck = omega arith
-most Kind·of.TelecommandNack = omega arith
-most Kind·of.TelemetryRequest = omega arith
-most Kind·of.TelemetryResponse = omega arith
-most Kind·of.TelemetryNack = omega arith
-most Kind·of.Event = omega arith
-
-pub payload-most : (c : Carries) (m : Message) (n : ℕ) → writeChecks c m n ≡ passed → n ≤ 256
-unfolding writeChecks payloadLegal inside
-payload-most c m n e =
-    let fields = fields-passed m (payloadLegal (m .kind) n) (require-passed _ 9 _ e .1) in
-    let range = payloadRange (m .kind) in
-    omega (arith, leb-true n (range .1) (both-true (leb (range .0) n) (leb n (range .1)) (fields .1) .1), most (m .kind))

@@ -7,7 +7,8 @@ use denote.Ref.{now}
 use lib.ListN.{length, drop}
 use lib.Seq.{sets}
 use Rattle.serial.specs.Stuffing.{doubled}
-use Rattle.serial.proofs.Doubling.{doubled-step, doubled-end, length-step, sets-append}
+use Rattle.message.proofs.Stores.{sets-append}
+use Rattle.serial.proofs.Doubling.{doubled-step, doubled-end, length-step}
 use Rattle.serial.proofs.double.double.Statement.{statement}
 use Rattle.serial.proofs.double.double.Tie as tie
 

@@ -8,7 +8,7 @@ use lib.ListN.{length, drop, length-set}
 use lib.Seq.{sets}
 use Rattle.serial.specs.Stuffing.{scan}
 use Rattle.serial.proofs.Undoubling.{Storing, store-doubled, store-tail}
-use Rattle.serial.proofs.Doubling.{sets-start}
+use Rattle.message.proofs.Stores.{sets-start}
 use Rattle.serial.proofs.undouble.undouble.Statement.{statement}
 use Rattle.serial.proofs.undouble.undouble.Tie as tie
 

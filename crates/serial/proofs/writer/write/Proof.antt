@@ -6,7 +6,7 @@ use lib.ListN.{length}
 use Rattle.message.specs.Answer.{passed, verdictTold, writeTold, after, within, counted, laid}
 use Rattle.message.specs.Checks.{writeChecks}
 use Rattle.serial.specs.Frames.{carries, frameWrite}
-use Rattle.serial.proofs.Writing.{payload-most}
+use Rattle.message.proofs.Checks.{payload-most}
 use Rattle.serial.proofs.writer.write.Statement.{statement}
 use Rattle.serial.proofs.writer.write.Tie as tie
 

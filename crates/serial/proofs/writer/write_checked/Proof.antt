@@ -8,7 +8,7 @@ use borrow.Author.Tests.{not-true, not-false}
 use Rattle.message.specs.Answer.{given, require, after, within, counted, laid, writeTold}
 use Rattle.message.proofs.Answers.{too-short, long-enough}
 use Rattle.serial.specs.Frames.{frameBytes}
-use Rattle.serial.proofs.Doubling.{sets-start}
+use Rattle.message.proofs.Stores.{sets-start}
 use Rattle.serial.proofs.writer.write_checked.Statement.{statement}
 use Rattle.serial.proofs.writer.write_checked.Tie as tie
 
