@@ -1,5 +1,5 @@
--- Document 01, "Marked cases": P1 to P12 as a list, and the one statement that all of them hold. A link's cases stand here from the
--- landing on that defines the link; so far those are the four links.
+-- Document 01, "Marked cases": P1 to P10 as a list, and the one statement that all of them hold. P11 and P12 are about the unit
+-- and the sender and come with them.
 use Prim.Native.Nat.{ℕ, _+_, _-_, _*_}
 use mathlib.Core.List.{List, [], _∷_}
 use mathlib.Core.Path.{_≡_}
