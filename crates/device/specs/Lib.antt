@@ -1,0 +1,4 @@
+pub mod Device
+pub mod Commands
+pub mod Receive
+pub mod Work
