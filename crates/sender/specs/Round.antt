@@ -1,0 +1,169 @@
+-- What an answer means to the sender, and what a round does to it (document 01, "The sender and its rounds").
+use Prim.Native.Nat.{ℕ, _+_, _/_, _%_}
+use mathlib.Core.Bool.{Bool, true, false, cond, not, _&&_, _||_}
+use mathlib.Core.List.{List}
+use lib.Dec.{ltb, eqb}
+use lib.ListN.{length, getD, take, drop}
+use Rattle.message.specs.Answer.{Answer, refused, given, number}
+use Rattle.message.specs.declared.ErrorByte.{ErrorByte}
+use Rattle.message.specs.declared.ErrorByte.the-variants.{Told, NotTold}
+use Rattle.message.specs.declared.Kind.{Kind}
+use Rattle.message.specs.declared.Kind.the-variants as Kind·of
+use Rattle.message.specs.declared.Message.{Message}
+use Rattle.little_endian.specs.LittleEndian.{fromBytes}
+use Rattle.checksum.specs.Checksum.{checksum}
+use Rattle.file.specs.File.{frameCount, fileFrame}
+use Rattle.link.specs.Link.{linkRead, carriesAddresses}
+use Rattle.sender.specs.Sender.{requestId, isRunning, sameFile, checked}
+use Rattle.sender.specs.declared.HearAnswer.{HearAnswer}
+use Rattle.sender.specs.declared.HearAnswer.the-variants as HearAnswer·of
+use Rattle.sender.specs.declared.Meaning.{Meaning}
+use Rattle.sender.specs.declared.Meaning.the-variants.{Stay, Forward, Differs, Flagged}
+use Rattle.sender.specs.declared.Sender.{Sender}
+use Rattle.sender.specs.declared.Stage.{Stage}
+use Rattle.sender.specs.declared.Stage.the-variants.{Frame, Back, Compare, Take, Confirm}
+use Rattle.sender.specs.declared.State.{State}
+use Rattle.sender.specs.declared.State.the-variants.{Running, Finished, GivenUp}
+
+-- "An answer fits only with the request's ID and, where the link carries addresses, the request's source as destination and its destination
+-- as source."
+unfoldable pub fits : Sender → Message → Bool
+fits s m =
+    eqb (m .id) (requestId (s .stage))
+    && (not (carriesAddresses (s .link)) || (eqb (m .destination) (s .source) && eqb (m .source) (s .destination)))
+
+-- C: "ack, nack 3, nack 6 or 'not told' nack".
+unfoldable pub takenError : ErrorByte → Bool
+takenError (Told e) = eqb e 3 || eqb e 6
+takenError NotTold = true
+
+-- The parts of a frame info of seven bytes.
+abbrev pub infoNumber : List ℕ → ℕ
+infoNumber p = fromBytes (take 2 p)
+
+abbrev pub infoSize : List ℕ → ℕ
+infoSize p = fromBytes (take 2 (drop 2 p))
+
+abbrev pub infoChecksum : List ℕ → ℕ
+infoChecksum p = fromBytes (take 2 (drop 4 p))
+
+-- "Bit 1 error": the other bits aren't looked at.
+abbrev pub infoError : List ℕ → Bool
+infoError p = eqb (getD p 6 0 / 2 % 2) 1
+
+-- B: "Size and checksum equal: C. Differing: back to A."
+unfoldable pub compared : List ℕ → List ℕ → Meaning
+compared frame p = cond (eqb (infoSize p) (length frame) && eqb (infoChecksum p) (checksum frame)) Forward Differs
+
+-- D: "Number i: A for the next frame, or finished after the last." Any other: stays.
+unfoldable pub confirmed : ℕ → List ℕ → Meaning
+confirmed i p = cond (eqb (infoNumber p) i) Forward Stay
+
+-- "The error flag at B or D: given up at once." A frame info not of seven bytes is any other answer.
+unfoldable pub informed : List ℕ → Meaning → Meaning
+informed p m = cond (eqb (length p) 7) (cond (infoError p) Flagged m) Stay
+
+-- What a fitting answer of each kind means at a stage.
+unfoldable pub ackMeaning : Stage → Meaning
+ackMeaning Frame = Forward
+ackMeaning Back = Forward
+ackMeaning Compare = Stay
+ackMeaning Take = Forward
+ackMeaning Confirm = Stay
+
+unfoldable pub nackMeaning : Stage → ErrorByte → Meaning
+nackMeaning Frame e = Stay
+nackMeaning Back e = Stay
+nackMeaning Compare e = Stay
+nackMeaning Take e = cond (takenError e) Forward Stay
+nackMeaning Confirm e = Stay
+
+unfoldable pub infoMeaning : Stage → List ℕ → ℕ → List ℕ → Meaning
+infoMeaning Frame file i p = Stay
+infoMeaning Back file i p = Stay
+infoMeaning Compare file i p = informed p (compared (fileFrame file i) p)
+infoMeaning Take file i p = Stay
+infoMeaning Confirm file i p = informed p (confirmed i p)
+
+unfoldable pub kindMeaning : Kind → Sender → List ℕ → Message → List ℕ → Meaning
+kindMeaning Kind·of.Telecommand s file m p = Stay
+kindMeaning Kind·of.TelecommandAck s file m p = ackMeaning (s .stage)
+kindMeaning Kind·of.TelecommandNack s file m p = nackMeaning (s .stage) (m .error)
+kindMeaning Kind·of.TelemetryRequest s file m p = Stay
+kindMeaning Kind·of.TelemetryResponse s file m p = infoMeaning (s .stage) file (s .frame) p
+kindMeaning Kind·of.TelemetryNack s file m p = Stay
+kindMeaning Kind·of.Event s file m p = Stay
+
+-- "Any other answer, or none: stays." No bytes are no answer.
+unfoldable pub meaning : Sender → List ℕ → Answer Message (List ℕ) → Meaning
+meaning s file (refused n) = Stay
+meaning s file (given m p) = cond (fits s m) (kindMeaning (m .kind) s file m p) Stay
+
+-- The stage behind a stage, where an answer means that, and how many stages of the frame have been arrived at.
+abbrev pub nextStage : Stage → Stage
+nextStage Frame = Compare
+nextStage Back = Compare
+nextStage Compare = Take
+nextStage Take = Confirm
+nextStage Confirm = Frame
+
+abbrev pub isLastStage : Stage → Bool
+isLastStage Frame = false
+isLastStage Back = false
+isLastStage Compare = false
+isLastStage Take = false
+isLastStage Confirm = true
+
+-- "A step forward is the first arrival at a stage of frame i, or the finish": every one but that from A again to B.
+abbrev pub isStep : Stage → Bool
+isStep Frame = true
+isStep Back = false
+isStep Compare = true
+isStep Take = true
+isStep Confirm = true
+
+-- A sender with these in place of its own.
+abbrev pub changed : Sender → ℕ → Stage → ℕ → State → Sender
+changed s frame stage since state =
+    record {
+      link = s .link;
+      source = s .source;
+      destination = s .destination;
+      length = s .length;
+      frame = frame;
+      stage = stage;
+      since = since;
+      rounds = (s .rounds + 1) % 4294967296;
+      state = state;
+    }
+
+-- A round without a step forward. "The fiftieth round in a row without a step forward: given up."
+unfoldable pub waited : Sender → Stage → Sender
+waited s stage = cond (ltb (s .since) 49) (changed s (s .frame) stage (s .since + 1) Running) (changed s (s .frame) stage (s .since) GivenUp)
+
+-- The first arrival at a stage; past D that is A of the next frame, or the finish after the last.
+unfoldable pub advanced : Sender → Sender
+advanced s =
+    cond (isLastStage (s .stage))
+    (cond (ltb (s .frame + 1) (frameCount (s .length)))
+    (changed s (s .frame + 1) Frame 0 Running)
+    (changed s (s .frame) Confirm 0 Finished))
+    (changed s (s .frame) (nextStage (s .stage)) 0 Running)
+
+-- A round with an answer that means this.
+unfoldable pub roundOver : Sender → Meaning → Sender
+roundOver s Stay = waited s (s .stage)
+roundOver s Forward = cond (isStep (s .stage)) (advanced s) (waited s (nextStage (s .stage)))
+roundOver s Differs = waited s Back
+roundOver s Flagged = changed s (s .frame) (s .stage) (s .since) GivenUp
+
+-- A sender that has ended stays as it is, whatever it is handed.
+unfoldable pub hear : Sender → List ℕ → List ℕ → Answer Sender Unit
+hear s file b =
+    cond (isRunning (s .state))
+    (checked (sameFile s file) (roundOver s (meaning s file (linkRead (s .link) b))))
+    (given s tt)
+
+unfoldable pub hearTold : HearAnswer → Answer Sender Unit
+hearTold (HearAnswer·of.Refused r) = refused (number r)
+hearTold (HearAnswer·of.Sender s) = given s tt

@@ -1,0 +1,132 @@
+-- The sender's state, how it starts and what it asks (document 01, "The sender and its rounds").
+use Prim.Native.Nat.{ℕ, _+_}
+use mathlib.Core.Bool.{Bool, true, false, cond, _&&_}
+use mathlib.Core.List.{List, []}
+use lib.Dec.{ltb, eqb}
+use lib.ListN.{length}
+use Rattle.message.specs.Answer.{Answer, Check, refused, given, number, passed, failed, require, after}
+use Rattle.message.specs.declared.ErrorByte.the-variants.{Told}
+use Rattle.message.specs.declared.Kind.{Kind}
+use Rattle.message.specs.declared.Kind.the-variants as Kind·of
+use Rattle.message.specs.declared.Message.{Message}
+use Rattle.little_endian.specs.LittleEndian.{toBytes}
+use Rattle.file.specs.File.{sizeLegal, fileFrame}
+use Rattle.link.specs.Link.{linkWrite}
+use Rattle.link.specs.declared.Link.{Link}
+use Rattle.link.specs.declared.Link.the-variants.{Uart, Rs485, Can, Csp}
+use Rattle.sender.specs.declared.RequestAnswer.{RequestAnswer}
+use Rattle.sender.specs.declared.RequestAnswer.the-variants as RequestAnswer·of
+use Rattle.sender.specs.declared.Sender.{Sender}
+use Rattle.sender.specs.declared.Stage.{Stage}
+use Rattle.sender.specs.declared.Stage.the-variants.{Frame, Back, Compare, Take, Confirm}
+use Rattle.sender.specs.declared.StartAnswer.{StartAnswer}
+use Rattle.sender.specs.declared.StartAnswer.the-variants as StartAnswer·of
+use Rattle.sender.specs.declared.State.{State}
+use Rattle.sender.specs.declared.State.the-variants.{Running, Finished, GivenUp}
+
+-- A sender at first: stage A of frame 0, no rounds.
+unfoldable pub newSender : Link → ℕ → ℕ → ℕ → Sender
+newSender l source destination n =
+    record {
+      link = l;
+      source = source;
+      destination = destination;
+      length = n;
+      frame = 0;
+      stage = Frame;
+      since = 0;
+      rounds = 0;
+      state = Running;
+    }
+
+-- 7: "on RS485 [..] a source or destination of 0".
+unfoldable pub addressesLegal : Link → ℕ → ℕ → Bool
+addressesLegal Uart s t = true
+addressesLegal Rs485 s t = ltb 0 s && ltb 0 t
+addressesLegal Can s t = true
+addressesLegal Csp s t = true
+
+-- The sender where the checks pass.
+unfoldable pub checked : Check → Sender → Answer Sender Unit
+checked passed s = given s tt
+checked (failed n) s = refused n
+
+-- "Starting a sender is refused with 11, then on RS485 with 7 for a source or destination of 0."
+unfoldable pub start : Link → ℕ → ℕ → ℕ → Answer Sender Unit
+start l source destination n =
+    checked (require (sizeLegal n) 11 (require (addressesLegal l source destination) 7 passed)) (newSender l source destination n)
+
+unfoldable pub startTold : StartAnswer → Answer Sender Unit
+startTold (StartAnswer·of.Refused r) = refused (number r)
+startTold (StartAnswer·of.Sender s) = given s tt
+
+-- What it sends at each stage: "A: sends frame. B: asks frame info. C: sends take frame i. D: asks frame info."
+abbrev pub requestKind : Stage → Kind
+requestKind Frame = Kind·of.Telecommand
+requestKind Back = Kind·of.Telecommand
+requestKind Compare = Kind·of.TelemetryRequest
+requestKind Take = Kind·of.Telecommand
+requestKind Confirm = Kind·of.TelemetryRequest
+
+abbrev pub requestId : Stage → ℕ
+requestId Frame = 22
+requestId Back = 22
+requestId Compare = 150
+requestId Take = 21
+requestId Confirm = 150
+
+unfoldable pub requestPayload : Stage → List ℕ → ℕ → List ℕ
+requestPayload Frame file i = fileFrame file i
+requestPayload Back file i = fileFrame file i
+requestPayload Compare file i = []
+requestPayload Take file i = toBytes 2 i
+requestPayload Confirm file i = []
+
+unfoldable pub requestMessage : Sender → Message
+requestMessage s =
+    record {
+      kind = requestKind (s .stage);
+      id = requestId (s .stage);
+      source = s .source;
+      destination = s .destination;
+      error = Told 0;
+      index = 0;
+    }
+
+abbrev pub isRunning : State → Bool
+isRunning Running = true
+isRunning Finished = false
+isRunning GivenUp = false
+
+-- A request, or nothing: "finished or given up, it sends nothing more".
+pub data Asked : Type 0 where
+  asks : Asked
+  nothing : Asked
+
+unfoldable pub asked : Answer Unit (List ℕ) → Answer Asked (List ℕ)
+asked (refused n) = refused n
+asked (given u b) = given asks b
+
+-- 11: "a sender that hasn't ended [..] if the file's length has changed". The 8 comes with the lent output, "11 (before 8)".
+unfoldable pub sameFile : Sender → List ℕ → Check
+sameFile s file = require (eqb (length file) (s .length)) 11 passed
+
+unfoldable pub request : Sender → List ℕ → Answer Asked (List ℕ)
+request s file =
+    cond (isRunning (s .state))
+    (after (sameFile s file) (asked (linkWrite (s .link) (requestMessage s) (requestPayload (s .stage) file (s .frame)))))
+    (given nothing [])
+
+unfoldable pub requestTold : RequestAnswer → Answer Asked ℕ
+requestTold (RequestAnswer·of.Refused r) = refused (number r)
+requestTold (RequestAnswer·of.Request n) = given asks n
+requestTold RequestAnswer·of.Nothing = given nothing 0
+
+-- "It reports frames known stored (those past D)": all before the one that it is at, and that one too once it has finished.
+unfoldable pub framesKnown : Sender → ℕ
+framesKnown s = known (s .state)
+  where
+    known : State → ℕ
+    known Running = s .frame
+    known Finished = s .frame + 1
+    known GivenUp = s .frame

@@ -1,0 +1,75 @@
+// The sender of an upload (document 01, "The sender and its rounds"). Its state goes by value: each call takes it and gives the next one.
+//
+// The rules are definitions of `specs/`: `Sender` (the state, starting, the request of each stage) and `Round` (what an answer means,
+// and what a round does to the state).
+use link::Link;
+use message::Refusal;
+
+// The four stages of a frame, with document 01's letter for each. `Back` is A after a frame info at B that differed: the next
+// arrival at B is then no step forward.
+pub enum Stage {
+    // A: sends frame.
+    Frame,
+    // A again.
+    Back,
+    // B: asks frame info, and compares size and checksum.
+    Compare,
+    // C: sends take frame.
+    Take,
+    // D: asks frame info, and waits for the frame's number.
+    Confirm,
+}
+
+pub enum State {
+    Running,
+    Finished,
+    GivenUp,
+}
+
+pub struct Sender {
+    pub link: Link,
+    // The addresses that its requests carry.
+    pub source: u8,
+    pub destination: u8,
+    // The file's length.
+    pub length: u32,
+    // The frame that it is at, from 0, and the stage of it.
+    pub frame: u32,
+    pub stage: Stage,
+    // The rounds since the last step forward, and all rounds.
+    pub since: u8,
+    pub rounds: u32,
+    pub state: State,
+}
+
+// What an answer means to the sender at its stage.
+pub enum Meaning {
+    // Any other answer, or none.
+    Stay,
+    // What the stage waits for.
+    Forward,
+    // A frame info at B that differs.
+    Differs,
+    // The error flag.
+    Flagged,
+}
+
+// The answer of starting a sender.
+pub enum StartAnswer {
+    Sender(Sender),
+    Refused(Refusal),
+}
+
+// The answer of asking for a request: its length at the start of the lent output, or nothing once the sender has ended. A refusal leaves
+// the output as it came.
+pub enum RequestAnswer {
+    Request(usize),
+    Nothing,
+    Refused(Refusal),
+}
+
+// The answer of handing over an answer: the sender afterwards. A refusal leaves it as it came.
+pub enum HearAnswer {
+    Sender(Sender),
+    Refused(Refusal),
+}
