@@ -1,7 +1,7 @@
 -- What a caller needs to know of a link, whichever it is: carried by each link's checks, which come before its bytes.
 use Prim.Native.Nat.{ℕ, _+_, _/_, _≤_, _<_}
 use mathlib.Core.Bool.{Bool, true, false, or-true}
-use mathlib.Core.List.{List, _++_}
+use mathlib.Core.List.{List, [], _++_}
 use mathlib.Core.Path.{_≡_, refl}
 use native.Mathlib.Omega.{arith}
 use borrow.Author.Tests.{leb-true, lt-ltb}
@@ -17,10 +17,10 @@ use Rattle.message.specs.declared.Kind.the-variants.{Telecommand, TelecommandAc
 use Rattle.message.specs.declared.Message.{Message}
 use Rattle.message.proofs.Answers.{after-given, after-passed}
 use Rattle.message.proofs.Checks.{require-passed, both-true, fields-passed}
-use Rattle.can.specs.Can.{seriesType, identifier, frame, inSeries, canBytes, canCarries, canWrite}
+use Rattle.can.specs.Can.{seriesType, identifier, frame, inSeries, canBytes, canCarries, canWrite, allFrames, complete, canRead}
 use Rattle.can.proofs.Writing.{identifier-length, frame-length, message-length, single-most}
-use Rattle.csp.specs.Csp.{cspHead, cspCarries, cspWrite}
-use Rattle.serial.specs.Frames.{rowOf, headLength, headFields, sourceLegal, carries, frameBytes, frameWrite}
+use Rattle.csp.specs.Csp.{cspHead, cspCarries, cspRead, cspWrite}
+use Rattle.serial.specs.Frames.{rowOf, headLength, headFields, sourceLegal, carries, frameBytes, frameRead, frameWrite}
 use Rattle.serial.specs.Stuffing.{doubled}
 use Rattle.serial.specs.declared.Row.{Row}
 use Rattle.serial.specs.declared.Row.the-variants as Row·of
@@ -29,7 +29,7 @@ use Rattle.serial.specs.declared.SerialLink.the-variants as SerialLink·of
 use Rattle.serial.proofs.Doubling.{doubled-most}
 use Rattle.serial.proofs.Tables.{head-length-three, fields-length}
 use Rattle.serial.proofs.Writing.{frame-size}
-use Rattle.link.specs.Link.{linkWrite, mostBytes}
+use Rattle.link.specs.Link.{linkRead, linkWrite, mostBytes}
 use Rattle.link.specs.declared.Link.{Link}
 use Rattle.link.specs.declared.Link.the-variants.{Uart, Rs485, Can, Csp}
 
@@ -127,3 +127,11 @@ legal-writes Uart m p h = (frameBytes SerialLink·of.Uart m p, rw (legal-checks 
 legal-writes Rs485 m p h = (frameBytes SerialLink·of.Rs485 m p, rw (legal-checks (carries SerialLink·of.Rs485) Rs485 m p h, lt-ltb _ _ (h .source)))
 legal-writes Can m p h = (canBytes m p, rw (legal-checks canCarries Can m p h))
 legal-writes Csp m p h = (cspHead m ++ p, rw (legal-checks cspCarries Csp m p h))
+
+-- No bytes are no message.
+pub no-bytes : (l : Link) → linkRead l [] ≡ refused 1
+unfolding linkRead frameRead canRead allFrames complete cspRead require after
+no-bytes Uart = refl
+no-bytes Rs485 = refl
+no-bytes Can = refl
+no-bytes Csp = refl

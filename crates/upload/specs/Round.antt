@@ -14,16 +14,16 @@ use Rattle.little_endian.specs.LittleEndian.{fromBytes}
 use Rattle.checksum.specs.Checksum.{checksum}
 use Rattle.file.specs.File.{frameCount, fileFrame}
 use Rattle.link.specs.Link.{linkRead, carriesAddresses}
-use Rattle.sender.specs.Sender.{requestId, isRunning, sameFile, checked}
-use Rattle.sender.specs.declared.HearAnswer.{HearAnswer}
-use Rattle.sender.specs.declared.HearAnswer.the-variants as HearAnswer·of
-use Rattle.sender.specs.declared.Meaning.{Meaning}
-use Rattle.sender.specs.declared.Meaning.the-variants.{Stay, Forward, Differs, Flagged}
-use Rattle.sender.specs.declared.Sender.{Sender}
-use Rattle.sender.specs.declared.Stage.{Stage}
-use Rattle.sender.specs.declared.Stage.the-variants.{Frame, Back, Compare, Take, Confirm}
-use Rattle.sender.specs.declared.State.{State}
-use Rattle.sender.specs.declared.State.the-variants.{Running, Finished, GivenUp}
+use Rattle.upload.specs.Sender.{requestId, isRunning, sameFile, checked}
+use Rattle.upload.specs.declared.HearAnswer.{HearAnswer}
+use Rattle.upload.specs.declared.HearAnswer.the-variants as HearAnswer·of
+use Rattle.upload.specs.declared.Meaning.{Meaning}
+use Rattle.upload.specs.declared.Meaning.the-variants.{Stay, Forward, Differs, Flagged}
+use Rattle.upload.specs.declared.Sender.{Sender}
+use Rattle.upload.specs.declared.Stage.{Stage}
+use Rattle.upload.specs.declared.Stage.the-variants.{Frame, Back, Compare, Take, Confirm}
+use Rattle.upload.specs.declared.State.{State}
+use Rattle.upload.specs.declared.State.the-variants.{Running, Finished, GivenUp}
 
 -- "An answer fits only with the request's ID and, where the link carries addresses, the request's source as destination and its destination
 -- as source."
@@ -137,15 +137,26 @@ changed s frame stage since state =
       state = state;
     }
 
--- A round without a step forward. "The fiftieth round in a row without a step forward: given up."
+-- "The fiftieth round in a row without a step forward: given up."
+abbrev pub mostWaits : ℕ
+mostWaits = 50
+
+-- A round without a step forward.
 unfoldable pub waited : Sender → Stage → Sender
-waited s stage = cond (ltb (s .since) 49) (changed s (s .frame) stage (s .since + 1) Running) (changed s (s .frame) stage (s .since) GivenUp)
+waited s stage =
+    cond (ltb (s .since + 1) mostWaits)
+    (changed s (s .frame) stage (s .since + 1) Running)
+    (changed s (s .frame) stage (s .since) GivenUp)
+
+-- The file has a frame behind this one.
+unfoldable pub hasNext : Sender → Bool
+hasNext s = ltb (s .frame + 1) (frameCount (s .length))
 
 -- The first arrival at a stage; past D that is A of the next frame, or the finish after the last.
 unfoldable pub advanced : Sender → Sender
 advanced s =
     cond (isLastStage (s .stage))
-    (cond (ltb (s .frame + 1) (frameCount (s .length)))
+    (cond (hasNext s)
     (changed s (s .frame + 1) Frame 0 Running)
     (changed s (s .frame) Confirm 0 Finished))
     (changed s (s .frame) (nextStage (s .stage)) 0 Running)

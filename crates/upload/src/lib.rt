@@ -1,7 +1,9 @@
-// The sender of an upload (document 01, "The sender and its rounds"). Its state goes by value: each call takes it and gives the next one.
+// The sender of an upload (document 01, "The sender and its rounds"), and the whole upload. The sender's state goes by value: each call
+// takes it and gives the next one.
 //
-// The rules are definitions of `specs/`: `Sender` (the state, starting, the request of each stage) and `Round` (what an answer means,
-// and what a round does to the state).
+// The rules are definitions of `specs/`: `Sender` (the state, starting, the request of each stage), `Round` (what an answer means, and what
+// a round does to the state), `World`, `Legal` and `Stored` (calls, the lists of calls that are allowed, the frames that they store),
+// `Schedule` (every sequence of rounds as such a list) and `Demand` (demand 3 as one statement). `proofs/` has its proof.
 use link::Link;
 use message::Refusal;
 

@@ -14,15 +14,15 @@ use Rattle.file.specs.File.{sizeLegal, fileFrame}
 use Rattle.link.specs.Link.{linkWrite}
 use Rattle.link.specs.declared.Link.{Link}
 use Rattle.link.specs.declared.Link.the-variants.{Uart, Rs485, Can, Csp}
-use Rattle.sender.specs.declared.RequestAnswer.{RequestAnswer}
-use Rattle.sender.specs.declared.RequestAnswer.the-variants as RequestAnswer·of
-use Rattle.sender.specs.declared.Sender.{Sender}
-use Rattle.sender.specs.declared.Stage.{Stage}
-use Rattle.sender.specs.declared.Stage.the-variants.{Frame, Back, Compare, Take, Confirm}
-use Rattle.sender.specs.declared.StartAnswer.{StartAnswer}
-use Rattle.sender.specs.declared.StartAnswer.the-variants as StartAnswer·of
-use Rattle.sender.specs.declared.State.{State}
-use Rattle.sender.specs.declared.State.the-variants.{Running, Finished, GivenUp}
+use Rattle.upload.specs.declared.RequestAnswer.{RequestAnswer}
+use Rattle.upload.specs.declared.RequestAnswer.the-variants as RequestAnswer·of
+use Rattle.upload.specs.declared.Sender.{Sender}
+use Rattle.upload.specs.declared.Stage.{Stage}
+use Rattle.upload.specs.declared.Stage.the-variants.{Frame, Back, Compare, Take, Confirm}
+use Rattle.upload.specs.declared.StartAnswer.{StartAnswer}
+use Rattle.upload.specs.declared.StartAnswer.the-variants as StartAnswer·of
+use Rattle.upload.specs.declared.State.{State}
+use Rattle.upload.specs.declared.State.the-variants.{Running, Finished, GivenUp}
 
 -- A sender at first: stage A of frame 0, no rounds.
 unfoldable pub newSender : Link → ℕ → ℕ → ℕ → Sender

@@ -1,2 +1,0 @@
-pub mod Sender
-pub mod Round

@@ -1,0 +1,63 @@
+-- The sender's request call: what it writes at each stage is legal on every link, so it is under way as the unit will read it.
+use Prim.Native.Nat.{ℕ, _≤_, zero-le}
+use mathlib.Core.Bool.{Bool, true, false}
+use mathlib.Core.List.{List}
+use mathlib.Core.Path.{_≡_, refl}
+use native.Mathlib.Omega.{arith}
+use borrow.Author.Tests.{eq-eqb, le-leb}
+use lib.Dec.{leb}
+use lib.ListN.{length}
+use Rattle.message.specs.Answer.{Answer, given, passed, require, after, within}
+use Rattle.message.specs.Checks.{idLegal, payloadLegal, errorLegal, fieldChecks, told}
+use Rattle.message.specs.Kinds.{inside, isEvent}
+use Rattle.little_endian.specs.LittleEndian.{toBytes}
+use Rattle.little_endian.proofs.Laws.{to-length}
+use Rattle.link.specs.Link.{linkRead, mostBytes}
+use Rattle.link.proofs.RoundTrip.{Arrives}
+use Rattle.upload.specs.Sender.{requestKind, requestId, requestPayload, requestMessage, asks, asked, sameFile, request}
+use Rattle.upload.specs.declared.Sender.{Sender}
+use Rattle.upload.specs.declared.Stage.{Stage}
+use Rattle.upload.specs.declared.Stage.the-variants.{Frame, Back, Compare, Take, Confirm}
+use Rattle.upload.specs.declared.State.the-variants.{Running}
+use Rattle.upload.specs.World.{World, shared, lent, bytesOr, does, isRefusal, isRefused}
+use Rattle.upload.specs.World as world
+use Rattle.upload.proofs.Exchange.{requestOf, requestRead, Plain, request-arrives}
+use Rattle.upload.proofs.Files.{frame-most}
+use Rattle.upload.proofs.Table.{Upload, sender, Asked}
+
+-- An answer that is not refused for want of room is the answer.
+pub unrefused : {A : Type 0} (out : List ℕ) (x : Answer A (List ℕ)) (a : A) (b : List ℕ) → x ≡ given a b → isRefusal (within out x) ≡ false → within out x ≡ given a b
+unfolding within after require isRefusal
+unrefused out x a b e h = rw e (by (leb (length b) (length out)) refl (rw e at h))
+  where
+    by : (t : Bool) → leb (length b) (length out) ≡ t → isRefusal (within out (given a b)) ≡ false → within out (given a b) ≡ given a b
+    by true q h = rw q
+    by false q h = absurd (let z : _≡_ {A = ℕ} 0 1 = cc (rw q at h) in omega arith)
+
+-- Every request is legal for its kind.
+request-plain : (stage : Stage) (s t : ℕ) (file : List ℕ) (f : ℕ) → Plain (requestOf (requestKind stage) (requestId stage) s t) (requestPayload stage file f)
+unfolding isEvent told fieldChecks idLegal payloadLegal errorLegal inside require requestPayload
+request-plain Frame s t file f = record { plain = refl; tells = refl; fields = rw (le-leb 0 _ zero-le, le-leb _ 256 (frame-most file f)) }
+request-plain Back s t file f = record { plain = refl; tells = refl; fields = rw (le-leb 0 _ zero-le, le-leb _ 256 (frame-most file f)) }
+request-plain Compare s t file f = record { plain = refl; tells = refl; fields = refl }
+request-plain Take s t file f = record { plain = refl; tells = refl; fields = rw (to-length 2 f) }
+request-plain Confirm s t file f = record { plain = refl; tells = refl; fields = refl }
+
+request-sent : (u : Upload) (stage : Stage) (f : ℕ) → Arrives (u .link) (requestOf (requestKind stage) (requestId stage) (u .source) (u .destination)) (requestPayload stage (u .file) f)
+request-sent u stage f =
+    request-arrives (u .link) (u .source) (u .destination) (u .own) (requestId stage) (requestKind stage) (requestPayload stage (u .file) f) (u .addressed) (request-plain stage (u .source) (u .destination) (u .file) f)
+
+-- The request of a running sender: its bytes are within the link's bound, and the unit will read them.
+pub asks-bytes : (u : Upload) (s : Sender) (stage : Stage) (f since rounds : ℕ) → s ≡ sender u f stage since rounds Running
+    → (b : List ℕ) × (request s (u .file) ≡ given asks b) × (length b ≤ mostBytes (u .link)) × (linkRead (u .link) b ≡ given (requestRead (u .link) (u .source) (u .destination) stage) (requestPayload stage (u .file) f))
+unfolding request requestMessage sameFile asked after require
+asks-bytes u s stage f since rounds e =
+    let sent = request-sent u stage f in
+    (sent .bytes, rw (e, eq-eqb (length (u .file)) (length (u .file)) refl, sent .wrote), sent .most, sent .reads)
+
+pub asks-request : (u : Upload) (w : World) (stage : Stage) (f since rounds : ℕ) (out : List ℕ) → w .sender ≡ sender u f stage since rounds Running
+    → isRefused (u .file) w (world.asks shared out) ≡ false → Asked u (does (u .file) w (world.asks shared out)) stage f
+unfolding isRefused does lent bytesOr
+asks-request u w stage f since rounds out e h =
+    let sent = asks-bytes u (w .sender) stage f since rounds e in
+    rw (unrefused out (request (w .sender) (u .file)) asks (sent .0) (sent .1) h) (sent .3)

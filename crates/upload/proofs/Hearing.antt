@@ -1,0 +1,152 @@
+-- What the sender's answer call does to the table: a step forward, a round more without one, or the end.
+use Prim.Native.Nat.{ℕ, _+_, _*_, _%_, _≤_, _<_}
+use mathlib.Core.Bool.{Bool, true, false, cond}
+use mathlib.Core.List.{List, [], _∷_, _++_}
+use mathlib.Core.Path.{_≡_, refl, sym, ap, _∙_}
+use native.Mathlib.Omega.{arith}
+use borrow.Author.Tests.{eq-eqb, ltb-true, ltb-false, lt-ltb, le-ltb}
+use lib.Dec.{ltb}
+use lib.ListN.{length}
+use Rattle.message.specs.Answer.{given, refused, passed, require}
+use Rattle.file.specs.File.{frameCount}
+use Rattle.link.specs.Link.{linkRead}
+use Rattle.link.specs.declared.Link.{Link}
+use Rattle.link.proofs.Laws.{no-bytes}
+use Rattle.upload.specs.Round.{meaning, mostWaits, waited, hasNext, advanced, roundOver, hear}
+use Rattle.upload.specs.Sender.{checked, sameFile}
+use Rattle.upload.specs.declared.Meaning.{Meaning}
+use Rattle.upload.specs.declared.Meaning.the-variants.{Stay, Forward, Differs, Flagged}
+use Rattle.upload.specs.declared.Sender.{Sender}
+use Rattle.upload.specs.declared.Stage.{Stage}
+use Rattle.upload.specs.declared.Stage.the-variants.{Frame, Back, Compare, Take, Confirm}
+use Rattle.upload.specs.declared.State.the-variants.{Running, Finished, GivenUp}
+use Rattle.upload.specs.Demand.{goodRounds}
+use Rattle.upload.specs.Legal.{Place, begun, between}
+use Rattle.upload.specs.Stored.{Mark}
+use Rattle.upload.specs.World.{World}
+use Rattle.upload.proofs.Counting.{Lull, lull-none, lull-more, good-round, bad-round, length-round}
+use Rattle.upload.proofs.Files.{count-legal}
+use Rattle.upload.proofs.Table.{Upload, Buffer, free, loaded, pending, Stands, steps, Goes, Leads, frames, UnitAt, sender, Running·, GivenUp·, Finished·, Invariant, runs, gaveUp, done}
+
+-- No bytes are no answer, on every link.
+pub nothing-heard : (l : Link) (s : Sender) (file : List ℕ) → meaning s file (linkRead l []) ≡ Stay
+unfolding meaning
+nothing-heard l s file = rw (no-bytes l)
+
+-- Whether a frame comes behind frame f.
+next-frame : (u : Upload) (f since rounds : ℕ) → hasNext (sender u f Confirm since rounds Running) ≡ true → f + 1 < frames u
+unfolding hasNext
+next-frame u f since rounds e = ltb-true (f + 1) (frames u) e
+
+last-frame : (u : Upload) (f since rounds : ℕ) → hasNext (sender u f Confirm since rounds Running) ≡ false → f < frames u → f + 1 ≡ frames u
+unfolding hasNext
+last-frame u f since rounds e h = omega (arith, ltb-false (f + 1) (frames u) e)
+
+module _ (u : Upload) (w : World) (past : List Bool) (marks : ℕ → Mark) where
+  abbrev pub handed : Sender → World
+  handed s = record { device = w .device; store = w .store; sender = s; request = w .request; answer = w .answer }
+
+  -- A round more: far below what the counter holds.
+  counts : (p : Place) (r : Bool) (h : Running· u p w past marks) → (length past + 1) % 4294967296 ≡ length (past ++ (r ∷ []))
+  counts p r h = rw (length-round past r) (omega (arith, h .below, h .few, h .rounds, most (h .stage), count-legal (length (u .file)) (u .legal) .1))
+    where
+      most : (stage : Stage) → steps stage ≤ 3
+      most Frame = omega arith
+      most Back = omega arith
+      most Compare = omega arith
+      most Take = omega arith
+      most Confirm = omega arith
+
+  -- A round without a step forward.
+  pub stays : (p : Place) (h : Running· u p w past marks) → Invariant u (handed (roundOver (sender u (h .frame) (h .stage) (h .since) (length past) Running) Stay)) (past ++ (false ∷ [])) marks between
+  unfolding roundOver waited
+  stays p h = by (ltb (h .since + 1) mostWaits) refl
+    where
+      by : (t : Bool) → ltb (h .since + 1) mostWaits ≡ t → Invariant u (handed (roundOver (sender u (h .frame) (h .stage) (h .since) (length past) Running) Stay)) (past ++ (false ∷ [])) marks between
+      by true e =
+          rw e (runs (record {
+            stage = h .stage;
+            frame = h .frame;
+            stored = h .stored;
+            buffer = h .buffer;
+            since = h .since + 1;
+            unit = h .unit;
+            sends = ap (λ (n : ℕ). sender u (h .frame) (h .stage) (h .since + 1) n Running) (counts p false h);
+            stands = h .stands;
+            place = tt;
+            below = h .below;
+            few = omega (arith, ltb-true (h .since + 1) mostWaits e);
+            lull = lull-more (h .lull);
+            rounds = rw (length-round past false) (omega (arith, h .rounds));
+            good = rw (bad-round past) (h .good);
+          }))
+      by false e =
+          let fifty : h .since + 1 ≡ 50 = omega (arith, ltb-false (h .since + 1) mostWaits e, h .few) in
+          rw e (gaveUp (record {
+            stage = h .stage;
+            frame = h .frame;
+            stored = h .stored;
+            buffer = h .buffer;
+            since = h .since;
+            unit = h .unit;
+            sends = ap (λ (n : ℕ). sender u (h .frame) (h .stage) (h .since) n GivenUp) (counts p false h);
+            stands = h .stands;
+            lull = rw (← fifty) (lull-more (h .lull));
+          }))
+
+  good-most : (r : Bool) → goodRounds (past ++ (r ∷ [])) ≤ goodRounds past + 1
+  good-most true = omega (arith, good-round past)
+  good-most false = omega (arith, bad-round past)
+
+  -- The first arrival at a stage,
+  onward : (p : Place) (r : Bool) (h : Running· u p w past marks) (f : ℕ) (stage : Stage) → Stands stage (h .buffer) f (h .stored) → f < frames u
+      → 4 * h .frame + steps (h .stage) + 1 ≡ 4 * f + steps stage → Invariant u (handed (sender u f stage 0 ((length past + 1) % 4294967296) Running)) (past ++ (r ∷ [])) marks between
+  onward p r h f stage stands below step =
+      runs (record {
+        stage = stage;
+        frame = f;
+        stored = h .stored;
+        buffer = h .buffer;
+        since = 0;
+        unit = h .unit;
+        sends = ap (λ (n : ℕ). sender u f stage 0 n Running) (counts p r h);
+        stands = stands;
+        place = tt;
+        below = below;
+        few = omega arith;
+        lull = lull-none (past ++ (r ∷ []));
+        rounds = rw (length-round past r) (omega (arith, h .rounds, h .few, step));
+        good = omega (arith, good-most r, h .good, step);
+      })
+
+  -- or past D the next frame, or the finish.
+  past-last : (p : Place) (r : Bool) (h : Running· u p w past marks) → h .stage ≡ Confirm → h .buffer ≡ free → h .stored ≡ h .frame + 1
+      → Invariant u (handed (roundOver (sender u (h .frame) Confirm (h .since) (length past) Running) Forward)) (past ++ (r ∷ [])) marks between
+  unfolding roundOver advanced
+  past-last p r h e c i = by (hasNext (sender u (h .frame) Confirm (h .since) (length past) Running)) refl
+    where
+      by : (t : Bool) → hasNext (sender u (h .frame) Confirm (h .since) (length past) Running) ≡ t → Invariant u (handed (roundOver (sender u (h .frame) Confirm (h .since) (length past) Running) Forward)) (past ++ (r ∷ [])) marks between
+      by true q = rw q (onward p r h (h .frame + 1) Frame (rw c i) (next-frame u (h .frame) (h .since) (length past) q) (rw e (omega arith)))
+      by false q =
+          let last : h .frame + 1 ≡ frames u = last-frame u (h .frame) (h .since) (length past) q (h .below) in
+          rw q (done (record {
+            frame = h .frame;
+            since = 0;
+            unit = rw (← last, ← i, ← c) (h .unit);
+            sends = ap (λ (n : ℕ). sender u (h .frame) Confirm 0 n Finished) (counts p r h);
+            last = last;
+          }))
+
+  -- A round with a step forward.
+  pub goes : (p : Place) (r : Bool) (h : Running· u p w past marks) → Goes (h .stage) (h .buffer)
+      → Invariant u (handed (roundOver (sender u (h .frame) (h .stage) (h .since) (length past) Running) Forward)) (past ++ (r ∷ [])) marks between
+  unfolding roundOver advanced
+  goes p r h g = by (h .stage) refl (h .buffer) refl (h .stands) g
+    where
+      by : (stage : Stage) → h .stage ≡ stage → (b : Buffer) → h .buffer ≡ b → Stands stage b (h .frame) (h .stored) → Goes stage b
+          → Invariant u (handed (roundOver (sender u (h .frame) (h .stage) (h .since) (length past) Running) Forward)) (past ++ (r ∷ [])) marks between
+      by Frame e loaded c s g = rw e (onward p r h (h .frame) Compare (rw c s) (h .below) (rw e (omega arith)))
+      by Compare e loaded c s g = rw e (onward p r h (h .frame) Take (rw c s) (h .below) (rw e (omega arith)))
+      by Take e free c s g = rw e (onward p r h (h .frame) Confirm (rw c s) (h .below) (rw e (omega arith)))
+      by Take e pending c s g = rw e (onward p r h (h .frame) Confirm (rw c s) (h .below) (rw e (omega arith)))
+      by Confirm e free c s g = rw e (past-last p r h e c s)

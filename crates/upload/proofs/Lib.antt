@@ -1,0 +1,16 @@
+pub mod Files
+pub mod Counting
+pub mod Refused
+pub mod Exchange
+pub mod Situations
+pub mod Faults
+pub mod Served
+pub mod Table
+pub mod Working
+pub mod Asking
+pub mod Arriving
+pub mod Hearing
+pub mod Keeps
+pub mod Begin
+pub mod Demand
+pub mod Schedules

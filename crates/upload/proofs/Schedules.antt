@@ -1,0 +1,181 @@
+-- Every sequence of rounds gives a legal list: with an output that every message fits no call of a round is refused.
+use Prim.Native.Nat.{ℕ, _≤_}
+use mathlib.Core.Bool.{Bool, true, false, cond, _&&_}
+use mathlib.Core.List.{List, [], _∷_, _++_}
+use mathlib.Core.Path.{_≡_, refl, sym, ap, _∙_}
+use native.Mathlib.Omega.{arith}
+use borrow.Author.Tests.{eq-eqb, le-leb}
+use lib.ListN.{length, length-replicate}
+use Rattle.message.specs.Answer.{Answer, given, within, passed, require, after}
+use Rattle.link.specs.Link.{mostBytes}
+use Rattle.link.specs.declared.Link.{Link}
+use Rattle.link.specs.declared.Link.the-variants.{Uart, Rs485, Can, Csp}
+use Rattle.device.specs.Receive.{answers, receive}
+use Rattle.device.specs.Work.{work}
+use Rattle.device.specs.declared.Device.{Device}
+use Rattle.upload.specs.Round.{hear}
+use Rattle.upload.specs.Sender.{isRunning, checked, sameFile, request}
+use Rattle.upload.specs.Sender as sent
+use Rattle.upload.specs.Demand.{Start}
+use Rattle.upload.specs.Legal.{Place, begun, asked, arrived, repeated, between, Legal, stops, workDone, requestMade, requestArrives, requestRepeats, delivered, requestLost, answerLost, twice}
+use Rattle.upload.specs.Schedule.{Fate, deliver, loseRequest, loseAnswer, double, Round, comesBack, isGood, goods, output, exchange, requested, roundCalls, scheduled, Realised, EverySchedule}
+use Rattle.upload.specs.Stored.{Mark, waiting}
+use Rattle.upload.specs.World.{World, shared, lent, Call, works, asks, arrives, hears, does, run, isRefusal, isRefused}
+use Rattle.upload.proofs.Arriving.{arrivedBuffer, arrival}
+use Rattle.upload.proofs.Asking.{asks-bytes}
+use Rattle.upload.proofs.Begin.{upload, begins}
+use Rattle.upload.proofs.Keeps.{keeps-work, keeps-ask, keeps-arrive, again, keeps-lost, keeps-delivered, running, marksAfter}
+use Rattle.upload.proofs.Situations.{unitAt}
+use Rattle.upload.proofs.Table.{Upload, isPending, Quiet, UnitAt, Asked, Running·, Invariant, runs}
+use Rattle.upload.proofs.Working.{work-free}
+
+-- No link needs more room.
+most-bytes : (l : Link) → mostBytes l ≤ 522
+most-bytes Uart = omega arith
+most-bytes Rs485 = omega arith
+most-bytes Can = omega arith
+most-bytes Csp = omega arith
+
+fits-output : {A : Type 0} (l : Link) (x : Answer A (List ℕ)) (a : A) (b : List ℕ) → x ≡ given a b → length b ≤ mostBytes l → isRefusal (within output x) ≡ false
+unfolding within after require isRefusal
+fits-output l x a b e h = rw (e, le-leb (length b) (length output) (omega (arith, h, most-bytes l, length-replicate {A = ℕ} 522 0)))
+
+module _ (u : Upload) (w : World) (past : List Bool) (marks : ℕ → Mark) (p : Place) (h : Running· u p w past marks) where
+  works-free : isRefused (u .file) w (works shared) ≡ false
+  unfolding isRefused lent
+  works-free = work-free u (h .stored) (h .buffer) (w .device) (w .store) marks (h .unit)
+
+  asks-free : isRefused (u .file) w (asks shared output) ≡ false
+  unfolding isRefused lent
+  asks-free =
+      let b = asks-bytes u (w .sender) (h .stage) (h .frame) (h .since) (length past) (h .sends) in
+      fits-output (u .link) (request (w .sender) (u .file)) sent.asks (b .0) (b .1) (b .2)
+
+  arrives-free : (d : Bool) → Quiet d (h .stage) (h .buffer) → Asked u w (h .stage) (h .frame) → isRefused (u .file) w (arrives (w .request) shared output) ≡ false
+  unfolding isRefused lent
+  arrives-free d quiet request =
+      let a = arrival u (w .request) (h .frame) (h .since) (length past) (length (w .store)) (h .below) d (h .stage) (h .buffer) (h .stored) (h .unit .buffer) (h .unit .buffered) request (h .stands) quiet (h .unit .holding) in
+      let unit : Device = unitAt (u .link) (u .own) (length (u .file)) (h .stored) (a .buffer) (a .buffered) (isPending (arrivedBuffer (h .stage) (h .buffer))) in
+      fits-output (u .link) (receive (w .device) (length (w .store)) (w .request)) (answers unit) (a .serves .bytes) (rw (h .unit .device) (a .serves .gives)) (a .serves .short)
+
+  hears-free : (b : List ℕ) → isRefused (u .file) w (hears shared b) ≡ false
+  unfolding isRefused lent hear sameFile checked isRefusal require
+  hears-free b = rw (h .sends, eq-eqb (length (u .file)) (length (u .file)) refl)
+
+run-append : (file : List ℕ) (w : World) (a b : List Call) → run file w (a ++ b) ≡ run file (run file w a) b
+unfolding run
+run-append file w [] b = refl
+run-append file w (c ∷ a) b = run-append file (does file w c) a b
+
+both-ways : (d : Bool) → (d && true ≡ d) × (d && false ≡ false)
+both-ways true = (refl, refl)
+both-ways false = (refl, refl)
+
+module _ (u : Upload) where
+  abbrev arrival-of : World → Call
+  arrival-of w = arrives (w .request) shared output
+
+  -- The request arrives, and arrives again.
+  module _ (d : Bool) (w : World) (past : List Bool) (marks : ℕ → Mark) where
+    one : Running· u (asked d) w past marks → Running· u (arrived d) (does (u .file) w (arrival-of w)) past (marksAfter (u .file) w (arrival-of w) marks)
+    one h = keeps-arrive u w past marks (asked d) d output h (h .place .0) (h .place .1) (arrives-free u w past marks (asked d) h d (h .place .0) (h .place .1))
+
+    two : Running· u (arrived d) w past marks → Running· u (repeated d) (does (u .file) w (arrival-of w)) past (marksAfter (u .file) w (arrival-of w) marks)
+    two h = again u _ past _ d (keeps-arrive u w past marks (arrived d) d output h (h .place .0) (h .place .1) (arrives-free u w past marks (arrived d) h d (h .place .0) (h .place .1)))
+
+  -- An exchange, from the written request on: where it leads,
+  exchanged : (f : Fate) (d : Bool) (w : World) (past : List Bool) (marks : ℕ → Mark) → Running· u (asked d) w past marks
+      → (past′ : List Bool) × ((marks′ : ℕ → Mark) × Invariant u (run (u .file) w (exchange (u .file) w f)) past′ marks′ between)
+  unfolding run exchange does
+  exchanged deliver d w past marks h = let g = one d w past marks h in (_, (_, keeps-delivered u _ past _ (arrived d) d g (g .place .2) (hears-free u _ past _ (arrived d) g _)))
+  exchanged loseRequest d w past marks h = (_, (_, keeps-lost u w past marks (asked d) h (hears-free u w past marks (asked d) h [])))
+  exchanged loseAnswer d w past marks h = let g = one d w past marks h in (_, (_, keeps-lost u _ past _ (arrived d) g (hears-free u _ past _ (arrived d) g [])))
+  exchanged double d w past marks h =
+      let g = two d _ past _ (one d w past marks h) in
+      (_, (_, keeps-delivered u _ past _ (repeated d) d g (g .place .2) (hears-free u _ past _ (repeated d) g _)))
+
+  -- and that it is legal in front of a legal list.
+  exchange-legal : (f : Fate) (d : Bool) (w : World) (past : List Bool) (marks : ℕ → Mark) → Running· u (asked d) w past marks → (rest : List Call) (rounds : List Bool)
+      → Legal (u .file) (run (u .file) w (exchange (u .file) w f)) between rest rounds → Legal (u .file) w (asked d) (exchange (u .file) w f ++ rest) ((d && comesBack f) ∷ rounds)
+  unfolding run exchange does
+  exchange-legal deliver d w past marks h rest rounds r =
+      let g = one d w past marks h in
+      rw (both-ways d .0) (requestArrives (arrives-free u w past marks (asked d) h d (h .place .0) (h .place .1)) (delivered (hears-free u _ past _ (arrived d) g _) r))
+  exchange-legal loseRequest d w past marks h rest rounds r = rw (both-ways d .1) (requestLost (hears-free u w past marks (asked d) h []) r)
+  exchange-legal loseAnswer d w past marks h rest rounds r =
+      let g = one d w past marks h in
+      rw (both-ways d .1) (requestArrives (arrives-free u w past marks (asked d) h d (h .place .0) (h .place .1)) (answerLost (hears-free u _ past _ (arrived d) g []) r))
+  exchange-legal double d w past marks h rest rounds r =
+      let g = one d w past marks h in
+      let k = two d _ past _ g in
+      rw (both-ways d .0)
+      (requestArrives (arrives-free u w past marks (asked d) h d (h .place .0) (h .place .1))
+      (requestRepeats (arrives-free u _ past _ (arrived d) g d (g .place .0) (g .place .1))
+      (twice (hears-free u _ past _ (repeated d) k _) r)))
+
+  -- The request in front of it,
+  module _ (f : Fate) (d : Bool) (w : World) (past : List Bool) (marks : ℕ → Mark) (h : Running· u (begun d) w past marks) where
+    asks-one : Running· u (asked d) (does (u .file) w (asks shared output)) past (marksAfter (u .file) w (asks shared output) marks)
+    asks-one = keeps-ask u w past marks d output (asks-free u w past marks (begun d) h) h
+
+    requested-at : (past′ : List Bool) × ((marks′ : ℕ → Mark) × Invariant u (run (u .file) w (requested (u .file) w f)) past′ marks′ between)
+    unfolding run requested
+    requested-at = exchanged f d _ past _ asks-one
+
+    requested-legal : (rest : List Call) (rounds : List Bool) → Legal (u .file) (run (u .file) w (requested (u .file) w f)) between rest rounds
+        → Legal (u .file) w (begun d) (requested (u .file) w f ++ rest) ((d && comesBack f) ∷ rounds)
+    unfolding run requested
+    requested-legal rest rounds r = requestMade {w = w} (rw (h .sends)) (asks-free u w past marks (begun d) h) (exchange-legal f d _ past _ asks-one rest rounds r)
+
+  -- and the work step, done or not.
+  module _ (w : World) (past : List Bool) (marks : ℕ → Mark) (h : Running· u between w past marks) where
+    works-one : Running· u (begun true) (does (u .file) w (works shared)) past (marksAfter (u .file) w (works shared) marks)
+    works-one = keeps-work u w past marks (works-free u w past marks between h) h
+
+    round-at : (r : Round) → (past′ : List Bool) × ((marks′ : ℕ → Mark) × Invariant u (run (u .file) w (roundCalls (u .file) w r)) past′ marks′ between)
+    unfolding run roundCalls
+    round-at r = by (r .worked) refl
+      where
+        by : (d : Bool) → r .worked ≡ d → (past′ : List Bool) × ((marks′ : ℕ → Mark) × Invariant u (run (u .file) w (roundCalls (u .file) w r)) past′ marks′ between)
+        by true e = rw e (requested-at (r .fate) true _ past _ works-one)
+        by false e = rw e (requested-at (r .fate) false w past marks h)
+
+    round-legal : (r : Round) (rest : List Call) (rounds : List Bool) → Legal (u .file) (run (u .file) w (roundCalls (u .file) w r)) between rest rounds
+        → Legal (u .file) w between (roundCalls (u .file) w r ++ rest) (isGood r ∷ rounds)
+    unfolding run roundCalls isGood
+    round-legal r rest rounds l = by (r .worked) refl
+      where
+        by : (d : Bool) → r .worked ≡ d → Legal (u .file) w between (roundCalls (u .file) w r ++ rest) (isGood r ∷ rounds)
+        by true e = rw e (workDone {w = w} (rw (h .sends)) (works-free u w past marks between h) (requested-legal (r .fate) true _ past _ works-one rest rounds (rw e at l)))
+        by false e = rw e (requested-legal (r .fate) false w past marks h rest rounds (rw e at l))
+
+  abbrev Schedules : List Round → Type 0
+  Schedules rs = (w : World) (past : List Bool) (marks : ℕ → Mark) → Invariant u w past marks between → Realised (u .file) w rs
+
+  -- One round more, unless the sender has ended.
+  schedule-more : (r : Round) (rs : List Round) → Schedules rs → Schedules (r ∷ rs)
+  unfolding scheduled goods run
+  schedule-more r rs more w past marks h = by (isRunning (w .sender .state)) refl
+    where
+      by : (t : Bool) → isRunning (w .sender .state) ≡ t → Realised (u .file) w (r ∷ rs)
+      by false e = record { rounds = []; later = goods (r ∷ rs); legal = rw e stops; same = refl; over = λ n. absurd (let z : _≡_ {A = ℕ} 0 1 = cc (rw (e, e) at n) in omega arith) }
+      by true e =
+          let runs-on = running u w past marks between e h in
+          let next = round-at w past marks runs-on r in
+          let rest = more _ (next .0) (next .1 .0) (next .1 .1) in
+          record {
+            rounds = isGood r ∷ rest .rounds;
+            later = rest .later;
+            legal = rw e (round-legal w past marks runs-on r _ (rest .rounds) (rest .legal));
+            same = ap (λ (x : List Bool). isGood r ∷ x) (rest .same);
+            over = λ n. rest .over (rw (e, run-append (u .file) w (roundCalls (u .file) w r) _) at n);
+          }
+
+  schedules : (rs : List Round) → Schedules rs
+  unfolding scheduled goods
+  schedules [] w past marks h = record { rounds = []; later = []; legal = stops; same = refl; over = λ n. refl }
+  schedules (r ∷ rs) w past marks h = schedule-more r rs (schedules rs) w past marks h
+
+pub every-schedule : EverySchedule
+unfolding upload
+every-schedule file w st rs = schedules (upload file w st) rs w [] (λ j. waiting) (begins file w st)

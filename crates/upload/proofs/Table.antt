@@ -1,0 +1,191 @@
+-- The table of situations: where unit and sender stand while frame f is under way, at every place of a round.
+use Prim.Native.Nat.{ℕ, _+_, _*_, _≤_, _<_, min}
+use mathlib.Core.Bool.{Bool, true, false, cond, _&&_}
+use mathlib.Core.List.{List, _++_}
+use mathlib.Core.Path.{_≡_}
+use lib.Dec.{ltb, eqb}
+use lib.ListN.{length, take, drop}
+use Rattle.message.specs.Answer.{given}
+use Rattle.file.specs.File.{sizeLegal, frameCount, fileFrame}
+use Rattle.link.specs.Link.{linkRead}
+use Rattle.link.specs.declared.Link.{Link}
+use Rattle.device.specs.declared.Device.{Device}
+use Rattle.upload.specs.Round.{meaning}
+use Rattle.upload.specs.Sender.{requestPayload}
+use Rattle.upload.specs.declared.Meaning.{Meaning}
+use Rattle.upload.specs.declared.Meaning.the-variants.{Stay, Forward, Differs, Flagged}
+use Rattle.upload.specs.declared.Sender.{Sender}
+use Rattle.upload.specs.declared.Stage.{Stage}
+use Rattle.upload.specs.declared.Stage.the-variants.{Frame, Back, Compare, Take, Confirm}
+use Rattle.upload.specs.declared.State.{State}
+use Rattle.upload.specs.declared.State.the-variants.{Running, Finished, GivenUp}
+use Rattle.upload.specs.Demand.{goodRounds}
+use Rattle.upload.specs.Legal.{Place, begun, asked, arrived, repeated}
+use Rattle.upload.specs.Stored.{Mark, waiting, taken, stored}
+use Rattle.upload.specs.World.{World}
+use Rattle.upload.proofs.Counting.{Lull}
+use Rattle.upload.proofs.Exchange.{Addressed, requestRead}
+use Rattle.upload.proofs.Situations.{unitAt, senderAt}
+
+-- What stays the same all along: the file, the store as the setup left it, the link and the addresses.
+pub record Upload : Type 0 where
+  pub file : List ℕ
+  pub start : List ℕ
+  pub link : Link
+  pub source : ℕ
+  pub destination : ℕ
+  pub own : ℕ
+  pub addressed : Addressed link source destination own
+  pub legal : sizeLegal (length file) ≡ true
+  pub room : length file ≤ length start
+
+-- The unit's buffer: nothing that is asked about, the next frame, or the next frame and pending.
+pub data Buffer : Type 0 where
+  free : Buffer
+  loaded : Buffer
+  pending : Buffer
+
+abbrev pub isPending : Buffer → Bool
+isPending free = false
+isPending loaded = false
+isPending pending = true
+
+-- The table: at each stage of frame f, how many frames the unit has stored with each state of its buffer.
+abbrev pub Stands : Stage → Buffer → ℕ → ℕ → Type 0
+Stands Frame free f i = i ≡ f
+Stands Frame loaded f i = i ≡ f
+Stands Frame pending f i = ⊥
+Stands Back b f i = ⊥
+Stands Compare free f i = ⊥
+Stands Compare loaded f i = i ≡ f
+Stands Compare pending f i = ⊥
+Stands Take free f i = i ≡ f + 1
+Stands Take loaded f i = i ≡ f
+Stands Take pending f i = i ≡ f
+Stands Confirm free f i = i ≡ f + 1
+Stands Confirm loaded f i = ⊥
+Stands Confirm pending f i = i ≡ f
+
+-- Steps forward in a frame so far.
+abbrev pub steps : Stage → ℕ
+steps Frame = 0
+steps Back = 1
+steps Compare = 1
+steps Take = 2
+steps Confirm = 3
+
+-- A round whose work step was done does not find the unit still pending at D.
+abbrev pub Quiet : Bool → Stage → Buffer → Type 0
+Quiet false stage b = Unit
+Quiet true Frame b = Unit
+Quiet true Back b = Unit
+Quiet true Compare b = Unit
+Quiet true Take b = Unit
+Quiet true Confirm free = Unit
+Quiet true Confirm loaded = Unit
+Quiet true Confirm pending = ⊥
+
+-- The situations from which the sender goes forward.
+abbrev pub Goes : Stage → Buffer → Type 0
+Goes Frame free = ⊥
+Goes Frame loaded = Unit
+Goes Frame pending = ⊥
+Goes Back b = ⊥
+Goes Compare b = Unit
+Goes Take free = Unit
+Goes Take loaded = ⊥
+Goes Take pending = Unit
+Goes Confirm free = Unit
+Goes Confirm loaded = ⊥
+Goes Confirm pending = ⊥
+
+-- What an answer under way means: forward, from such a situation, or stay, in a round that is not good.
+abbrev pub Leads : Meaning → Bool → Stage → Buffer → Type 0
+Leads Stay d stage b = d ≡ false
+Leads Forward d stage b = Goes stage b
+Leads Differs d stage b = ⊥
+Leads Flagged d stage b = ⊥
+
+-- Each frame's mark: those stored, the one pending, the others.
+unfoldable pub markOf : ℕ → Buffer → ℕ → Mark
+markOf i b j = cond (ltb j i) stored (cond (isPending b && eqb j i) taken waiting)
+
+module _ (u : Upload) where
+  abbrev pub frames : ℕ
+  frames = frameCount (length (u .file))
+
+  -- What is in the buffer, where something is asked about it.
+  abbrev pub Holding : Buffer → ℕ → List ℕ → Type 0
+  Holding free i content = i ≤ frames
+  Holding loaded i content = (i < frames) × (content ≡ fileFrame (u .file) i)
+  Holding pending i content = (i < frames) × (content ≡ fileFrame (u .file) i)
+
+  -- The unit has stored i frames, and the calls so far count so many.
+  pub record UnitAt (i : ℕ) (b : Buffer) (d : Device) (store : List ℕ) (marks : ℕ → Mark) : Type 0 where
+    pub buffer : List ℕ
+    pub buffered : ℕ
+    pub device : d ≡ unitAt (u .link) (u .own) (length (u .file)) i buffer buffered (isPending b)
+    pub holding : Holding b i (take buffered buffer)
+    pub stores : store ≡ take (256 * i) (u .file) ++ drop (min (256 * i) (length (u .file))) (u .start)
+    pub marked : (j : ℕ) → marks j ≡ markOf i b j
+
+  abbrev pub sender : ℕ → Stage → ℕ → ℕ → State → Sender
+  sender f stage since rounds state = senderAt (u .link) (u .source) (u .destination) (length (u .file)) f stage since rounds state
+
+  -- The request that is under way, as the unit reads it.
+  abbrev pub Asked : World → Stage → ℕ → Type 0
+  Asked w stage f = linkRead (u .link) (w .request) ≡ given (requestRead (u .link) (u .source) (u .destination) stage) (requestPayload stage (u .file) f)
+
+  -- The answer that is under way, as the sender takes it.
+  pub record Answered (w : World) (d : Bool) (stage : Stage) (b : Buffer) : Type 0 where
+    pub meant : Meaning
+    pub means : meaning (w .sender) (u .file) (linkRead (u .link) (w .answer)) ≡ meant
+    pub leads : Leads meant d stage b
+
+  abbrev pub AtPlace : Place → World → Stage → Buffer → ℕ → Type 0
+  AtPlace (begun d) w stage b f = Quiet d stage b
+  AtPlace (asked d) w stage b f = Quiet d stage b × Asked w stage f
+  AtPlace (arrived d) w stage b f = Quiet d stage b × Asked w stage f × Answered w d stage b
+  AtPlace (repeated d) w stage b f = Quiet d stage b × Asked w stage f × Answered w d stage b
+
+  -- The whole invariant of a list so far, with its rounds and marks: the sender runs,
+  pub record Running· (p : Place) (w : World) (past : List Bool) (marks : ℕ → Mark) : Type 0 where
+    pub stage : Stage
+    pub frame : ℕ
+    pub stored : ℕ
+    pub buffer : Buffer
+    pub since : ℕ
+    pub unit : UnitAt stored buffer (w .device) (w .store) marks
+    pub sends : w .sender ≡ sender frame stage since (length past) Running
+    pub stands : Stands stage buffer frame stored
+    pub place : AtPlace p w stage buffer frame
+    pub below : frame < frames
+    pub few : since < 50
+    pub lull : Lull past since
+    pub rounds : length past ≤ 50 * (4 * frame + steps stage) + since
+    pub good : goodRounds past ≤ 4 * frame + steps stage
+
+  -- has given up,
+  pub record GivenUp· (w : World) (past : List Bool) (marks : ℕ → Mark) : Type 0 where
+    pub stage : Stage
+    pub frame : ℕ
+    pub stored : ℕ
+    pub buffer : Buffer
+    pub since : ℕ
+    pub unit : UnitAt stored buffer (w .device) (w .store) marks
+    pub sends : w .sender ≡ sender frame stage since (length past) GivenUp
+    pub stands : Stands stage buffer frame stored
+    pub lull : Lull past 50
+
+  -- or has finished.
+  pub record Finished· (w : World) (past : List Bool) (marks : ℕ → Mark) : Type 0 where
+    pub frame : ℕ
+    pub since : ℕ
+    pub unit : UnitAt frames free (w .device) (w .store) marks
+    pub sends : w .sender ≡ sender frame Confirm since (length past) Finished
+    pub last : frame + 1 ≡ frames
+
+  pub data Invariant (w : World) (past : List Bool) (marks : ℕ → Mark) : Place → Type 0 where
+    runs : {p : Place} → Running· p w past marks → Invariant w past marks p
+    gaveUp : GivenUp· w past marks → Invariant w past marks (begun false)
+    done : Finished· w past marks → Invariant w past marks (begun false)
