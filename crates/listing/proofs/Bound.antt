@@ -2,10 +2,10 @@
 -- twenty, and only a complete one, of four bytes or more, has a longer one.
 use Prim.Native.Nat.{ℕ, zero, suc, _+_, _*_, _≤_, _<_}
 use mathlib.Core.Bool.{Bool, true, false, cond}
-use mathlib.Core.List.{List, [], _∷_, _++_}
+use mathlib.Core.List.{List, [], _∷_}
 use mathlib.Core.Path.{_≡_, refl}
 use native.Mathlib.Omega.{arith}
-use borrow.Author.Tests.{le-leb, leb-true, leb-false}
+use borrow.Author.Tests.{leb-true}
 use lib.Dec.{leb, eqb}
 use lib.ListN.{length, take, drop, length-append, length-drop}
 use Rattle.digits.specs.Numbers.{decimal}
@@ -22,9 +22,8 @@ use Rattle.serial.specs.Stuffing.{Scan, scan, escaped, frameScan}
 use Rattle.serial.specs.declared.SerialLink.the-variants.{Uart}
 use Rattle.serial.specs.declared.Stop.{Stop}
 use Rattle.serial.specs.declared.Stop.the-variants.{Ended, Broken, Cut}
-use Rattle.listing.specs.Lines.{text, kindText, nameText, fieldText, line, spaced, lineText}
+use Rattle.listing.specs.Lines.{kindText, fieldText, line, spaced, lineText}
 use Rattle.listing.specs.Listing.{Found, nothing, frame, hunt, frameLength, said, frameLine, framed, lines, listing, longest}
-use Rattle.listing.specs.declared.line.Field.{Field}
 use Rattle.listing.specs.declared.line.Field.the-variants.{Number, Dash}
 use Rattle.listing.proofs.Puts.{line-size}
 use Rattle.listing.proofs.Reading.{read-most, read-low}

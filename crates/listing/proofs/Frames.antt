@@ -3,7 +3,7 @@ use Prim.Native.Nat.{ℕ, _+_, _-_}
 use mathlib.Core.List.{List}
 use mathlib.Core.Path.{_≡_}
 use native.Mathlib.Nat.{add-sub-cancel-left}
-use lib.ListN.{take, drop}
+use lib.ListN.{take}
 use Rattle.message.specs.Answer.{refused, counted}
 use Rattle.serial.specs.Frames.{frameRead}
 use Rattle.serial.specs.Stuffing.{frameScan}

@@ -4,3 +4,4 @@ pub mod Frames
 pub mod Walks
 pub mod Bound
 pub mod Walking
+pub mod Listed

@@ -9,7 +9,7 @@ use lib.Dec.{leb}
 use lib.ListN.{length, getD, drop}
 use Rattle.message.specs.Answer.{Answer, refused, given, Check, passed, failed, require, after, within, counted, readTold}
 use Rattle.message.specs.Body.{errorNumber, bodyMessage, bodyRead}
-use Rattle.message.specs.Checks.{idLegal, payloadLegal, errorLegal, bodyFits, fieldChecks, bodyChecks, writable, writeChecks}
+use Rattle.message.specs.Checks.{idLegal, payloadLegal, errorLegal, fieldChecks, bodyChecks, writable, writeChecks}
 use Rattle.message.specs.Kinds.{inside, idRange, errorRange}
 use Rattle.message.specs.declared.ErrorByte.{ErrorByte}
 use Rattle.message.specs.declared.ErrorByte.the-variants.{Told, NotTold}
@@ -19,7 +19,7 @@ use Rattle.message.specs.declared.Message.{Message}
 use Rattle.message.specs.declared.ReadAnswer.{ReadAnswer}
 use Rattle.message.proofs.Answers.{after-passed, long-enough}
 use Rattle.message.proofs.Checks.{require-passed, both-true, fields-passed, payload-most}
-use Rattle.serial.specs.Frames.{startRow, kindOf, headLength, idField, addressField, sourceLegal, sourced, identified, frameBody, closed, started, carries, frameRead, frameWrite}
+use Rattle.serial.specs.Frames.{startRow, kindOf, headLength, idField, sourceLegal, sourced, identified, frameBody, closed, started, carries, frameRead, frameWrite}
 use Rattle.serial.specs.Stuffing.{scan}
 use Rattle.serial.specs.declared.IdKind.{IdKind}
 use Rattle.serial.specs.declared.IdKind.the-variants as IdKind·of

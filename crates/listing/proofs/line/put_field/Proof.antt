@@ -1,6 +1,6 @@
 -- Carried by the law of one text behind another.
 use Rattle.listing.proofs.Puts.{put-more}
-use Rattle.listing.specs.Lines.{text, fieldText, spaced}
+use Rattle.listing.specs.Lines.{text, spaced}
 use Rattle.digits.specs.Numbers.{decimal}
 use denote.Ref.{now}
 use native.Mathlib.Omega.{arith}

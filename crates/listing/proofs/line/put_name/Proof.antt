@@ -3,7 +3,6 @@
 use Rattle.listing.proofs.Puts.{put-more}
 use Rattle.listing.specs.Lines.{text, nameText, spaced}
 use lib.Seq.{length-take-le}
-use lib.ListN.{length-append}
 use denote.Ref.{now}
 use native.Mathlib.Omega.{arith}
 use mathlib.Core.Path.{sym}

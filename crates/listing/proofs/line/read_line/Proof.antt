@@ -4,7 +4,6 @@ use Rattle.listing.proofs.Reading.{told-most, told-whole}
 use Rattle.listing.specs.Lines.{line}
 use Rattle.message.specs.Answer.{readTold}
 use denote.Ref.{now}
-use native.Mathlib.Omega.{arith}
 use mathlib.Core.Path.{ap, _∙_}
 use borrow.Author.Needs.{needs}
 use Rattle.listing.proofs.line.read_line.Statement.{statement}

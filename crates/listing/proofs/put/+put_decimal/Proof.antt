@@ -1,16 +1,14 @@
 -- The proof of a cycle of calls: `put_decimal` calls itself with a tenth of its number, which is the measure. Carried by the law that the
 -- digits of a number are those of its tenth with one more behind them.
-use Prim.Native.Nat.{ℕ, _+_, _/_, _%_, _<_, _≤_}
+use Prim.Native.Nat.{ℕ, _+_, _/_, _%_, _<_}
 use mathlib.Core.List.{[], _∷_}
-use mathlib.Core.Path.{_≡_, refl, ap, sym, _∙_}
+use mathlib.Core.Path.{ap}
 use native.Mathlib.Omega.{arith}
 use borrow.Author.Needs.{needs}
-use borrow.Author.Tests.{lt-ltb}
 use borrow.Fn.Kinds.{In}
 use borrow.Fn.PlainCycle.{Measures, is, falls, and}
 use denote.Ref.{now}
-use lib.ListN.{length, length-append}
-use Rattle.digits.specs.Digits.{digitOf}
+use lib.ListN.{length}
 use Rattle.digits.specs.Numbers.{decimal}
 use Rattle.digits.proofs.Printing.{decimal-digit, decimal-more}
 use Rattle.listing.proofs.Puts.{put-more, digit-byte, more-size}

@@ -3,8 +3,7 @@ use lib.ListN.{drop}
 -- Carried by the scan's way to stop, and for a complete frame by what stands between its ESC and its end.
 use Rattle.listing.specs.Lines.{line}
 use denote.Ref.{now}
-use native.Mathlib.Omega.{arith}
-use mathlib.Core.Path.{sym, ap, _∙_}
+use mathlib.Core.Path.{ap, _∙_}
 use borrow.Author.Needs.{needs}
 use Rattle.listing.proofs.walk.frame_line.Statement.{statement}
 use Rattle.listing.proofs.walk.frame_line.Tie as tie
