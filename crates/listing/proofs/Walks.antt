@@ -62,12 +62,12 @@ module _ (at : ℕ) where
   lines-byte zero b x s q = refl
   lines-byte (suc n) b x s q = rw q
 
-  lines-pair : (n x : ℕ) (s : List ℕ) → startRow Uart x ≡ Unknown → lines n at (0x1F ∷ x ∷ s) ≡ lines n (at + 2) s
+  pub lines-pair : (n x : ℕ) (s : List ℕ) → startRow Uart x ≡ Unknown → lines n at (0x1F ∷ x ∷ s) ≡ lines n (at + 2) s
   unfolding lines hunt pair
   lines-pair zero x s q = refl
   lines-pair (suc n) x s q = rw q
 
-  lines-end : (n : ℕ) (s : List ℕ) → length s ≤ 1 → lines n at s ≡ []
+  pub lines-end : (n : ℕ) (s : List ℕ) → length s ≤ 1 → lines n at s ≡ []
   unfolding lines framed hunt
   lines-end zero s h = refl
   lines-end (suc n) [] h = refl
