@@ -22,7 +22,7 @@ use Rattle.serial.specs.Stuffing.{Scan, scan, escaped, frameScan}
 use Rattle.serial.specs.declared.SerialLink.the-variants.{Uart}
 use Rattle.serial.specs.declared.Stop.{Stop}
 use Rattle.serial.specs.declared.Stop.the-variants.{Ended, Broken, Cut}
-use Rattle.listing.specs.Lines.{kindText, fieldText, line, spaced, lineText}
+use Rattle.listing.specs.Lines.{kindText, fieldText, idOf, codeOf, line, spaced, lineText}
 use Rattle.listing.specs.Listing.{Found, nothing, frame, hunt, frameLength, said, frameLine, framed, lines, listing, longest}
 use Rattle.listing.specs.declared.line.Field.the-variants.{Number, Dash}
 use Rattle.listing.proofs.Puts.{line-size}
@@ -79,7 +79,7 @@ module _ (at : ℕ) (offset : at < 65536) where
   refused-short n h = omega (arith, line-size (line at (refused n)), at-short, decimal-length 0 n h)
 
   given-short : (m : Message) (n : ℕ) → m .id ≤ 255 → errorNumber (m .error) ≤ 255 → n ≤ 256 → length (lineText (line at (given m n))) ≤ 40
-  unfolding line spaced
+  unfolding line spaced idOf codeOf
   given-short m n i e h =
       omega (
         arith,

@@ -17,7 +17,7 @@ use Rattle.listing.specs.declared.line.Field.{Field}
 use Rattle.listing.specs.declared.line.Field.the-variants.{Number, Dash}
 use Rattle.listing.specs.declared.line.Line.{Line}
 use Rattle.listing.specs.declared.line.Name.{Name}
-use Rattle.listing.specs.declared.line.Name.the-variants.{MessageOf, Refused}
+use Rattle.listing.specs.declared.line.Name.the-variants as Name·of
 
 -- The bytes of a text.
 abbrev pub text : String → List ℕ
@@ -35,25 +35,27 @@ kindText Kind·of.TelemetryNack = text "tlmnack"
 kindText Kind·of.Event = text "event"
 
 abbrev pub nameText : Name → List ℕ
-nameText (MessageOf k) = kindText k
-nameText Refused = text "refused"
+nameText (Name·of.Kind k) = kindText k
+nameText Name·of.Refused = text "refused"
 
 abbrev pub fieldText : Field → List ℕ
 fieldText (Number n) = decimal n
 fieldText Dash = text "-"
 
--- "Fields: offset of the ESC; kind; ID or `-` (events and refusals); data bytes after undoubling (`-` for refusals); error byte of
--- acks and nacks, refusal number, else `-`." The reader tells a message and the length of its payload, or a refusal number.
+-- "ID or `-` (events and refusals)": of a message.
+unfoldable pub idOf : Message → Field
+idOf m = cond (isEvent (m .kind)) Dash (Number (m .id))
+
+-- "Error byte of acks and nacks, refusal number, else `-`": of a message.
+unfoldable pub codeOf : Message → Field
+codeOf m = cond (leb 1 (errorLength (m .kind))) (Number (errorNumber (m .error))) Dash
+
+-- "Fields: offset of the ESC; kind; ID or `-`; data bytes after undoubling (`-` for refusals); error byte of acks and nacks, refusal
+-- number, else `-`." The reader tells a message and the length of its payload, or a refusal number.
 unfoldable pub line : ℕ → Answer Message ℕ → Line
-line at (refused n) = record { at = at; name = Refused; id = Dash; length = Dash; code = Number n }
+line at (refused n) = record { at = at; name = Name·of.Refused; id = Dash; length = Dash; code = Number n }
 line at (given m n) =
-    record {
-      at = at;
-      name = MessageOf (m .kind);
-      id = cond (isEvent (m .kind)) Dash (Number (m .id));
-      length = Number (errorLength (m .kind) + n);
-      code = cond (leb 1 (errorLength (m .kind))) (Number (errorNumber (m .error))) Dash;
-    }
+    record { at = at; name = Name·of.Kind (m .kind); id = idOf m; length = Number (errorLength (m .kind) + n); code = codeOf m }
 
 -- A field behind another.
 unfoldable pub spaced : List ℕ → List ℕ

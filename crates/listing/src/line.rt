@@ -5,7 +5,7 @@ ghost use lib.ListN.{length, take};
 ghost use lib.Seq.{sets};
 ghost use Rattle.message.specs.Answer.{refused, given, counted, number};
 ghost use Rattle.serial.specs.Frames.{frameRead};
-ghost use Rattle.listing.specs.Lines.{line, kindText, nameText, fieldText, spaced, lineText};
+ghost use Rattle.listing.specs.Lines.{idOf, codeOf, line, kindText, nameText, fieldText, spaced, lineText};
 ghost use Rattle.listing.specs.Listing.{longest};
 use crate::put::put_decimal;
 use crate::put::put_text;
@@ -17,7 +17,7 @@ use serial::SerialLink;
 
 // What stands for the kind: the kind's name, or `refused`.
 pub enum Name {
-    MessageOf(Kind),
+    Kind(Kind),
     Refused,
 }
 
@@ -53,6 +53,7 @@ pub(crate) fn read_line(at: usize, frame: &[u8]) -> Line
     }
 }
 
+// The line of a frame that is refused.
 pub(crate) fn refused_line(at: usize, refusal: Refusal) -> Line
     ensures { λ r. ⌜ r ≡ line at (refused (number refusal)) ⌝ }
 {
@@ -65,16 +66,17 @@ pub(crate) fn refused_line(at: usize, refusal: Refusal) -> Line
     }
 }
 
+// The line of a frame that reads as a message with a payload of that length.
 fn message_line(at: usize, message: Message, length: usize) -> Line
     requires { ⌜ length ≤ 256 ⌝ }
     ensures { λ r. ⌜ r ≡ line at (given message length) ⌝ }
 {
     let kind = message.kind;
-    let id = id_field(message);
-    let code = code_field(message);
+    let id = id_of(message);
+    let code = code_of(message);
     Line {
         at,
-        name: Name::MessageOf(kind),
+        name: Name::Kind(kind),
         id,
         length: Field::Number(kind.error_length() + length),
         code,
@@ -82,8 +84,8 @@ fn message_line(at: usize, message: Message, length: usize) -> Line
 }
 
 // An event, which alone has type 9, has no ID.
-fn id_field(message: Message) -> Field
-    ensures { λ r. ⌜ r ≡ line 0 (given message 0) .id ⌝ }
+fn id_of(message: Message) -> Field
+    ensures { λ r. ⌜ r ≡ idOf message ⌝ }
 {
     let kind = message.kind;
     if kind.type_number() == 9 {
@@ -93,8 +95,8 @@ fn id_field(message: Message) -> Field
 }
 
 // Acks and nacks have an error byte.
-fn code_field(message: Message) -> Field
-    ensures { λ r. ⌜ r ≡ line 0 (given message 0) .code ⌝ }
+fn code_of(message: Message) -> Field
+    ensures { λ r. ⌜ r ≡ codeOf message ⌝ }
 {
     let kind = message.kind;
     if kind.error_length() < 1 {
@@ -122,6 +124,7 @@ pub(crate) fn put_line(line: Line, out: &mut [u8], at: usize) -> usize
     put_text(b"\n", out, to)
 }
 
+// Puts the name behind the offset.
 fn put_name(name: Name, out: &mut [u8], at: usize) -> usize
     requires { ⌜ at + length (spaced (nameText name)) ≤ longest ⌝ }
     ensures { λ r. ⌜ r ≡ at + length (spaced (nameText name)) ⌝ }
@@ -134,6 +137,7 @@ fn put_name(name: Name, out: &mut [u8], at: usize) -> usize
     put_text(&letters[..length], out, to)
 }
 
+// Puts a field behind another.
 fn put_field(field: Field, out: &mut [u8], at: usize) -> usize
     requires { ⌜ at + length (spaced (fieldText field)) ≤ longest ⌝ }
     ensures { λ r. ⌜ r ≡ at + length (spaced (fieldText field)) ⌝ }
@@ -150,7 +154,7 @@ fn name_word(name: Name) -> Word
     ensures { λ r. ⌜ (take (r .length) (r .letters) ≡ nameText name) × (r .length ≤ length (r .letters)) ⌝ }
 {
     match name {
-        Name::MessageOf(kind) => kind_word(kind),
+        Name::Kind(kind) => kind_word(kind),
         Name::Refused => Word {
             letters: *b"refused",
             length: 7,

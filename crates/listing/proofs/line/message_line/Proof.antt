@@ -6,11 +6,11 @@ use borrow.Author.Needs.{needs}
 use Rattle.listing.proofs.line.message_line.Statement.{statement}
 use Rattle.listing.proofs.line.message_line.Tie as tie
 
-id-field-requires : tie.Need-id-field-requires
-id-field-requires c κs = search needs
+id-of-requires : tie.Need-id-of-requires
+id-of-requires c κs = search needs
 
-code-field-requires : tie.Need-code-field-requires
-code-field-requires c κs = search needs
+code-of-requires : tie.Need-code-of-requires
+code-of-requires c κs = search needs
 
 error-length-requires : tie.Need-error-length-requires
 error-length-requires c κs = search needs
@@ -20,8 +20,8 @@ add-t9 c = omega (arith, c .error-length .ensures, error-length-two (c .before .
 
 returns : tie.Need-returns
 unfolding line
-returns c = rw (c .before .before .id-field .ensures, c .before .code-field .ensures, c .error-length .ensures)
+returns c = rw (c .before .before .id-of .ensures, c .before .code-of .ensures, c .error-length .ensures)
 
 pub message-line-spec : {M : Type 1} → statement M
 message-line-spec =
-    tie.close (tie.spec id-field-requires code-field-requires error-length-requires add-t9 returns)
+    tie.close (tie.spec id-of-requires code-of-requires error-length-requires add-t9 returns)
