@@ -8,20 +8,20 @@ use native.Mathlib.Omega.{arith}
 use borrow.Author.Tests.{leb-true}
 use lib.Dec.{leb, eqb}
 use lib.ListN.{length, take, drop, length-append, length-drop}
-use Rattle.digits.specs.Numbers.{decimal}
-use Rattle.digits.proofs.Printing.{decimal-length}
+use Rattle.message.proofs.Tables.{error-length-two}
 use Rattle.message.specs.Answer.{Answer, refused, given, counted}
 use Rattle.message.specs.Body.{errorNumber}
 use Rattle.message.specs.Kinds.{errorLength, isEvent}
-use Rattle.message.specs.declared.Kind.{Kind}
 use Rattle.message.specs.declared.Kind.the-variants as Kind·of
+use Rattle.message.specs.declared.Kind.{Kind}
 use Rattle.message.specs.declared.Message.{Message}
-use Rattle.message.proofs.Tables.{error-length-two}
+use Rattle.digits.proofs.Printing.{decimal-length}
+use Rattle.digits.specs.Numbers.{decimal}
 use Rattle.serial.specs.Frames.{frameRead}
 use Rattle.serial.specs.Stuffing.{Scan, scan, escaped, frameScan}
 use Rattle.serial.specs.declared.SerialLink.the-variants.{Uart}
-use Rattle.serial.specs.declared.Stop.{Stop}
 use Rattle.serial.specs.declared.Stop.the-variants.{Ended, Broken, Cut}
+use Rattle.serial.specs.declared.Stop.{Stop}
 use Rattle.listing.specs.Lines.{kindText, fieldText, idOf, codeOf, line, spaced, lineText}
 use Rattle.listing.specs.Listing.{Found, nothing, frame, hunt, frameLength, said, frameLine, framed, lines, listing, longest}
 use Rattle.listing.specs.declared.line.Field.the-variants.{Number, Dash}

@@ -8,8 +8,8 @@ use Rattle.message.specs.Answer.{refused, counted}
 use Rattle.serial.specs.Frames.{frameRead}
 use Rattle.serial.specs.Stuffing.{frameScan}
 use Rattle.serial.specs.declared.SerialLink.the-variants.{Uart}
-use Rattle.serial.specs.declared.Stop.{Stop}
 use Rattle.serial.specs.declared.Stop.the-variants.{Ended, Broken, Cut}
+use Rattle.serial.specs.declared.Stop.{Stop}
 use Rattle.listing.specs.Listing.{frameLength, said}
 
 module _ (stop : Stop) (f : List ℕ) (scanned : stop ≡ frameScan f .stop) where

@@ -10,22 +10,22 @@ use borrow.Author.Tests.{le-leb, eqb-true}
 use lib.Dec.{eqb}
 use lib.ListN.{length, take, drop, length-append}
 use lib.Seq.{take-append-seam, drop-append-seam}
+use Rattle.message.proofs.Answers.{after-given, after-passed}
+use Rattle.message.proofs.Checks.{require-passed}
 use Rattle.message.specs.Answer.{refused, given, counted, passed, require, after, written}
 use Rattle.message.specs.Body.{bodyBytes}
 use Rattle.message.specs.Checks.{writable, writeChecks}
 use Rattle.message.specs.declared.Message.{Message}
-use Rattle.message.proofs.Answers.{after-given, after-passed}
-use Rattle.message.proofs.Checks.{require-passed}
+use Rattle.serial.proofs.RoundTrip.{written-reads}
+use Rattle.serial.proofs.Scans.{scan-plain, scan-doubled}
+use Rattle.serial.proofs.Tables.{row-of-start, written-row}
 use Rattle.serial.specs.Frames.{startByte, startRow, rowOf, sourceLegal, closed, started, frameRead, carries, headFields, frameBytes, frameWrite, frameCarried}
 use Rattle.serial.specs.Stuffing.{doubled, Scan, stopped, scan, escaped, frameScan}
 use Rattle.serial.specs.declared.Row.{Row}
 use Rattle.serial.specs.declared.SerialLink.the-variants.{Uart}
 use Rattle.serial.specs.declared.StartRow.the-variants.{Known, Unknown}
-use Rattle.serial.specs.declared.Stop.{Stop}
 use Rattle.serial.specs.declared.Stop.the-variants.{Ended, Broken, Cut}
-use Rattle.serial.proofs.RoundTrip.{written-reads}
-use Rattle.serial.proofs.Scans.{scan-plain, scan-doubled}
-use Rattle.serial.proofs.Tables.{row-of-start, written-row}
+use Rattle.serial.specs.declared.Stop.{Stop}
 use Rattle.listing.specs.Lines.{line, lineText}
 use Rattle.listing.specs.Listing.{frameLength, said, frameLine, lines}
 use Rattle.listing.proofs.Walks.{lines-pair, lines-end, lines-frame}

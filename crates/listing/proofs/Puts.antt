@@ -4,15 +4,15 @@ use mathlib.Core.List.{List, [], _∷_, _++_}
 use mathlib.Core.Path.{_≡_}
 use native.Mathlib.Numerals.{add-one}
 use native.Mathlib.Omega.{arith}
+use borrow.Author.Tests.{lt-ltb}
 use lib.ListN.{length, getD, drop, length-append, drop-of-length-le}
 use lib.Seq.{drop-cons, sets}
-use borrow.Author.Tests.{lt-ltb}
+use Rattle.message.proofs.Stores.{sets-append}
+use Rattle.digits.proofs.Printing.{decimal-more}
 use Rattle.digits.specs.Digits.{digitOf}
 use Rattle.digits.specs.Numbers.{decimal}
 use Rattle.listing.specs.Lines.{nameText, fieldText, spaced, lineText}
 use Rattle.listing.specs.declared.line.Line.{Line}
-use Rattle.digits.proofs.Printing.{decimal-more}
-use Rattle.message.proofs.Stores.{sets-append}
 
 -- What putting s at a place of `out` gives: the place behind it, and the output then.
 abbrev pub Put : List ℕ → ℕ → List ℕ → ℕ → List ℕ → Type 0

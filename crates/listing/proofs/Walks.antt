@@ -13,8 +13,8 @@ use lib.Seq.{drop-cons, drop-drop}
 use Rattle.serial.specs.Frames.{startRow}
 use Rattle.serial.specs.declared.Row.{Row}
 use Rattle.serial.specs.declared.SerialLink.the-variants.{Uart}
-use Rattle.serial.specs.declared.StartRow.{StartRow}
 use Rattle.serial.specs.declared.StartRow.the-variants.{Known, Unknown}
+use Rattle.serial.specs.declared.StartRow.{StartRow}
 use Rattle.listing.specs.Listing.{Found, nothing, frame, pair, hunt, frameLength, frameLine, framed, lines}
 
 -- A frame that a hunt finds is what is left from a later offset on, and has its ESC and its start byte.

@@ -60,11 +60,15 @@ unfoldable pub lines : ℕ → ℕ → List ℕ → List ℕ
 lines zero at s = []
 lines (suc turns) at s = framed (hunt at s) (lines turns)
 
+-- Each line ends with LF, and the header is the first.
+abbrev pub header : List ℕ
+header = text "at kind id len code\n"
+
 -- "Reads at most 65,536 UART bytes"; "beyond that it prints only `input too long`". "Empty input gives the header alone."
 unfoldable pub listing : List ℕ → List ℕ
 listing s =
     cond (leb (length s) 65536)
-    (text "at kind id len code\n" ++ lines (length s) 0 s)
+    (header ++ lines (length s) 0 s)
     (text "input too long\n")
 
 -- No listing is longer: the header, and ten bytes of text for each byte (`proofs/Bound.antt`).

@@ -1,6 +1,6 @@
 -- Carried by the count of arguments.
-use borrow.Author.Needs.{needs}
 use Prim.Native.Nat.{_-_}
+use borrow.Author.Needs.{needs}
 use Rattle.frames_vectors.proofs.main.Statement.{statement}
 use Rattle.frames_vectors.proofs.main.Tie as tie
 

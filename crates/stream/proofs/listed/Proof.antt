@@ -1,14 +1,14 @@
 -- Carried by the bound on a listing's length: a refusal can't occur.
+use Prim.Native.Nat.{_≤_}
+use mathlib.Core.Path.{_≡_}
+use native.Mathlib.Omega.{arith}
+use borrow.Author.Needs.{needs}
+use denote.Ref.{now}
+use lib.ListN.{length, take, length-append}
+use lib.Seq.{take-append-seam}
 use Rattle.message.proofs.Answers.{lay-refused, lay-length}
 use Rattle.listing.proofs.Bound.{listing-longest}
 use Rattle.listing.specs.Listing.{listing}
-use lib.Seq.{take-append-seam}
-use lib.ListN.{length, take, length-append}
-use denote.Ref.{now}
-use native.Mathlib.Omega.{arith}
-use mathlib.Core.Path.{_≡_}
-use Prim.Native.Nat.{_≤_}
-use borrow.Author.Needs.{needs}
 use Rattle.stream.proofs.listed.Statement.{statement}
 use Rattle.stream.proofs.listed.Tie as tie
 

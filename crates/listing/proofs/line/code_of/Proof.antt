@@ -1,7 +1,7 @@
 -- Carried by the test of the kind's error length.
-use Rattle.listing.specs.Lines.{codeOf}
-use borrow.Author.Tests.{le-leb, lt-leb}
 use borrow.Author.Needs.{needs}
+use borrow.Author.Tests.{le-leb, lt-leb}
+use Rattle.listing.specs.Lines.{codeOf}
 use Rattle.listing.proofs.line.code_of.Statement.{statement}
 use Rattle.listing.proofs.line.code_of.Tie as tie
 

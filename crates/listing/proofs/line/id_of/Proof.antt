@@ -1,8 +1,8 @@
 -- Carried by the test of the kind's type number.
-use Rattle.listing.specs.Lines.{idOf}
-use Rattle.message.specs.Kinds.{isEvent}
-use borrow.Author.Tests.{eq-eqb, ne-eqb}
 use borrow.Author.Needs.{needs}
+use borrow.Author.Tests.{eq-eqb, ne-eqb}
+use Rattle.message.specs.Kinds.{isEvent}
+use Rattle.listing.specs.Lines.{idOf}
 use Rattle.listing.proofs.line.id_of.Statement.{statement}
 use Rattle.listing.proofs.line.id_of.Tie as tie
 

@@ -1,8 +1,8 @@
 -- Carried by what each field is.
-use Rattle.listing.specs.Lines.{line}
-use Rattle.message.proofs.Tables.{error-length-two}
 use native.Mathlib.Omega.{arith}
 use borrow.Author.Needs.{needs}
+use Rattle.message.proofs.Tables.{error-length-two}
+use Rattle.listing.specs.Lines.{line}
 use Rattle.listing.proofs.line.message_line.Statement.{statement}
 use Rattle.listing.proofs.line.message_line.Tie as tie
 

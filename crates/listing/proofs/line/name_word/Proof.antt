@@ -1,6 +1,6 @@
 -- Carried by computing the letters of `refused`, and by the kind's.
-use native.Mathlib.Omega.{arith}
 use mathlib.Core.Path.{refl}
+use native.Mathlib.Omega.{arith}
 use borrow.Author.Needs.{needs}
 use Rattle.listing.proofs.line.name_word.Statement.{statement}
 use Rattle.listing.proofs.line.name_word.Tie as tie

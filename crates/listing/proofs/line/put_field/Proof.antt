@@ -1,10 +1,10 @@
 -- Carried by the law of one text behind another.
-use Rattle.listing.proofs.Puts.{put-more}
-use Rattle.listing.specs.Lines.{text, spaced}
-use Rattle.digits.specs.Numbers.{decimal}
-use denote.Ref.{now}
 use native.Mathlib.Omega.{arith}
 use borrow.Author.Needs.{needs}
+use denote.Ref.{now}
+use Rattle.digits.specs.Numbers.{decimal}
+use Rattle.listing.specs.Lines.{text, spaced}
+use Rattle.listing.proofs.Puts.{put-more}
 use Rattle.listing.proofs.line.put_field.Statement.{statement}
 use Rattle.listing.proofs.line.put_field.Tie as tie
 

@@ -1,11 +1,11 @@
-use mathlib.Core.List.{_++_}
 -- Carried by the law of one text behind another, and by the length of a line, field by field.
-use Rattle.listing.proofs.Puts.{put-more, line-size}
-use Rattle.listing.specs.Lines.{text, nameText, fieldText, spaced, lineText}
-use Rattle.digits.specs.Numbers.{decimal}
-use denote.Ref.{now}
+use mathlib.Core.List.{_++_}
 use native.Mathlib.Omega.{arith}
 use borrow.Author.Needs.{needs}
+use denote.Ref.{now}
+use Rattle.digits.specs.Numbers.{decimal}
+use Rattle.listing.specs.Lines.{text, nameText, fieldText, spaced, lineText}
+use Rattle.listing.proofs.Puts.{put-more, line-size}
 use Rattle.listing.proofs.line.put_line.Statement.{statement}
 use Rattle.listing.proofs.line.put_line.Tie as tie
 

@@ -1,12 +1,11 @@
 -- Carried by the law of one text behind another.
-
-use Rattle.listing.proofs.Puts.{put-more}
-use Rattle.listing.specs.Lines.{text, nameText, spaced}
-use lib.Seq.{length-take-le}
-use denote.Ref.{now}
-use native.Mathlib.Omega.{arith}
 use mathlib.Core.Path.{sym}
+use native.Mathlib.Omega.{arith}
 use borrow.Author.Needs.{needs}
+use denote.Ref.{now}
+use lib.Seq.{length-take-le}
+use Rattle.listing.specs.Lines.{text, nameText, spaced}
+use Rattle.listing.proofs.Puts.{put-more}
 use Rattle.listing.proofs.line.put_name.Statement.{statement}
 use Rattle.listing.proofs.line.put_name.Tie as tie
 

@@ -1,11 +1,11 @@
-use native.Mathlib.Nat.{le-refl}
 -- Carried by the law that 256 bytes have room for every payload, so that the reader never answers 8.
-use Rattle.listing.proofs.Reading.{told-most, told-whole}
-use Rattle.listing.specs.Lines.{line}
-use Rattle.message.specs.Answer.{readTold}
-use denote.Ref.{now}
 use mathlib.Core.Path.{ap, _∙_}
+use native.Mathlib.Nat.{le-refl}
 use borrow.Author.Needs.{needs}
+use denote.Ref.{now}
+use Rattle.message.specs.Answer.{readTold}
+use Rattle.listing.specs.Lines.{line}
+use Rattle.listing.proofs.Reading.{told-most, told-whole}
 use Rattle.listing.proofs.line.read_line.Statement.{statement}
 use Rattle.listing.proofs.line.read_line.Tie as tie
 

@@ -1,6 +1,6 @@
 -- Carried by the refusal's number.
-use Rattle.listing.specs.Lines.{line}
 use borrow.Author.Needs.{needs}
+use Rattle.listing.specs.Lines.{line}
 use Rattle.listing.proofs.line.refused_line.Statement.{statement}
 use Rattle.listing.proofs.line.refused_line.Tie as tie
 

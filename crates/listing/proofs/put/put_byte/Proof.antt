@@ -1,7 +1,7 @@
 -- Carried by the law that a store past the end of a list leaves it as it is.
-use lib.Seq.{set-out}
 use mathlib.Core.Path.{refl, sym}
 use borrow.Author.Needs.{needs}
+use lib.Seq.{set-out}
 use Rattle.listing.proofs.put.put_byte.Statement.{statement}
 use Rattle.listing.proofs.put.put_byte.Tie as tie
 

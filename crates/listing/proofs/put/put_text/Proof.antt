@@ -1,12 +1,12 @@
-use native.Mathlib.Nat.{add-zero}
 -- Carried by the law of one turn: the output with the rest of the text put is what it is with all of it put.
-use Rattle.listing.proofs.Puts.{put-turn, put-end}
-use lib.Seq.{sets}
-use lib.ListN.{length, drop}
-use native.Mathlib.Omega.{arith}
-use mathlib.Core.Path.{_≡_, refl, sym, _∙_}
 use Prim.Native.Nat.{_+_, _-_, _≤_}
+use mathlib.Core.Path.{_≡_, refl, sym, _∙_}
+use native.Mathlib.Nat.{add-zero}
+use native.Mathlib.Omega.{arith}
 use borrow.Author.Needs.{needs}
+use lib.ListN.{length, drop}
+use lib.Seq.{sets}
+use Rattle.listing.proofs.Puts.{put-turn, put-end}
 use Rattle.listing.proofs.put.put_text.Statement.{statement}
 use Rattle.listing.proofs.put.put_text.Tie as tie
 

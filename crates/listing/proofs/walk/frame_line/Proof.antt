@@ -1,10 +1,10 @@
-use Rattle.listing.proofs.Frames.{said-broken, said-cut, said-ended}
-use lib.ListN.{drop}
 -- Carried by the scan's way to stop, and for a complete frame by what stands between its ESC and its end.
-use Rattle.listing.specs.Lines.{line}
-use denote.Ref.{now}
 use mathlib.Core.Path.{ap, _∙_}
 use borrow.Author.Needs.{needs}
+use denote.Ref.{now}
+use lib.ListN.{drop}
+use Rattle.listing.specs.Lines.{line}
+use Rattle.listing.proofs.Frames.{said-broken, said-cut, said-ended}
 use Rattle.listing.proofs.walk.frame_line.Statement.{statement}
 use Rattle.listing.proofs.walk.frame_line.Tie as tie
 

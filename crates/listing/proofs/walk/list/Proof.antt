@@ -1,14 +1,14 @@
 -- Carried by the count that comes first: each return rewrites with what it came to.
-use Rattle.listing.specs.Listing.{listing}
-use Rattle.message.proofs.Stores.{sets-start}
-use Rattle.message.proofs.Answers.{too-short, long-enough}
-use Rattle.message.specs.Answer.{given, counted, laid, writeTold}
-use lib.ListN.{length}
+use Prim.Native.Nat.{_<_, _≤_}
+use mathlib.Core.Path.{refl, ap}
+use borrow.Author.Needs.{needs}
 use borrow.Author.Tests.{lt-leb}
 use denote.Ref.{now}
-use mathlib.Core.Path.{refl, ap}
-use Prim.Native.Nat.{_<_, _≤_}
-use borrow.Author.Needs.{needs}
+use lib.ListN.{length}
+use Rattle.message.proofs.Answers.{too-short, long-enough}
+use Rattle.message.proofs.Stores.{sets-start}
+use Rattle.message.specs.Answer.{given, counted, laid, writeTold}
+use Rattle.listing.specs.Listing.{listing}
 use Rattle.listing.proofs.walk.list.Statement.{statement}
 use Rattle.listing.proofs.walk.list.Tie as tie
 

@@ -1,13 +1,13 @@
 -- Carried by the laws of the two loops, and by the bound on a listing's length, for which the places in the text fit.
+use Prim.Native.Nat.{_+_, _-_}
+use mathlib.Core.Path.{_≡_, refl, sym, _∙_}
+use native.Mathlib.Omega.{arith}
+use borrow.Author.Needs.{needs}
+use denote.Ref.{now}
+use lib.ListN.{length, drop}
 use Rattle.serial.specs.Stuffing.{frameScan}
 use Rattle.listing.specs.Listing.{frameLength, frameLine}
 use Rattle.listing.proofs.Walking.{Begins, Hunted, Walked, hunted-byte, hunted-pair, end-inside, line-fits, walked-frame, scanned, walked-end}
-use lib.ListN.{length, drop}
-use denote.Ref.{now}
-use borrow.Author.Needs.{needs}
-use native.Mathlib.Omega.{arith}
-use mathlib.Core.Path.{_≡_, refl, sym, _∙_}
-use Prim.Native.Nat.{_+_, _-_}
 use Rattle.listing.proofs.walk.walk.Statement.{statement}
 use Rattle.listing.proofs.walk.walk.Tie as tie
 
