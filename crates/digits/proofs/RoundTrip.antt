@@ -20,7 +20,7 @@ capital-back : (n : ℕ) → 10 ≤ n → n < 16 → digitValue (55 + n) ≡ n
 unfolding digitValue
 capital-back n l h = rw (above-range (55 + n) 48 57 (omega arith), in-range (55 + n) 65 70 (omega arith) (omega arith)) (omega arith)
 
-digit-back : (n : ℕ) → n < 16 → digitValue (digitOf n) ≡ n
+pub digit-back : (n : ℕ) → n < 16 → digitValue (digitOf n) ≡ n
 unfolding digitOf
 digit-back n h = by (ltb n 10) refl
   where

@@ -1,10 +1,10 @@
 -- Decimal numbers ("A script").
-use Prim.Native.Nat.{ℕ, _+_, _*_}
+use Prim.Native.Nat.{ℕ, zero, suc, _+_, _*_, _/_, _%_}
 use mathlib.Core.Bool.{cond, _&&_}
-use mathlib.Core.List.{List, [], _∷_}
-use lib.Dec.{leb, eqb}
+use mathlib.Core.List.{List, [], _∷_, _++_}
+use lib.Dec.{leb, ltb, eqb}
 use lib.ListN.{length}
-use Rattle.digits.specs.Digits.{digitValue, allDigits}
+use Rattle.digits.specs.Digits.{digitValue, allDigits, digitOf}
 use Rattle.digits.specs.declared.NumberAnswer.{NumberAnswer}
 use Rattle.digits.specs.declared.NumberAnswer.the-variants.{Value, Bad}
 
@@ -20,3 +20,11 @@ numberFrom most v s = cond (allDigits 10 s && leb (valueFrom v s) most) (Value (
 -- "Numbers are one or more decimal digits": an empty word is none.
 unfoldable pub numberOf : ℕ → List ℕ → NumberAnswer
 numberOf most w = cond (eqb (length w) 0) Bad (numberFrom most 0 w)
+
+-- A number as it is printed: its decimal digits, without zeros in front. `turns` only ends the recursion, and more than n are enough.
+unfoldable pub digitsIn : ℕ → ℕ → List ℕ
+digitsIn zero n = []
+digitsIn (suc turns) n = cond (ltb n 10) (digitOf n ∷ []) (digitsIn turns (n / 10) ++ (digitOf (n % 10) ∷ []))
+
+unfoldable pub decimal : ℕ → List ℕ
+decimal n = digitsIn (suc n) n

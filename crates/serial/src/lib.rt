@@ -11,6 +11,7 @@ mod writer;
 
 pub use reader::read;
 pub use scanner::scan;
+pub use start::start_row;
 pub use writer::write;
 
 // UART's ESC, tail and start bytes.

@@ -59,7 +59,8 @@ pub(crate) fn carries(link: SerialLink) -> Carries
     }
 }
 
-pub(crate) fn start_row(link: SerialLink, start: u8) -> StartRow
+// The row of a start byte of a link.
+pub fn start_row(link: SerialLink, start: u8) -> StartRow
     ensures { λ r. ⌜ r ≡ startRow link start ⌝ }
 {
     match link {

@@ -1,0 +1,25 @@
+// frames_vectors: lists each file that an argument names, under its name, as `frames` lists standard input.
+use libc::STDOUT_FILENO;
+
+fn main() {
+    let count = os::arg_count();
+    let mut i = 1;
+    while i < count {
+        list_file(i);
+        i += 1;
+    }
+}
+
+fn list_file(i: usize) {
+    let mut name = io::buffer();
+    let length = os::arg(i, &mut name);
+    let file = os::open_read(&name[..length]);
+    if file < 0 {
+        os::fail(&name[..length]);
+        return;
+    }
+    io::write_all(STDOUT_FILENO, &name[..length]);
+    io::write_all(STDOUT_FILENO, b"\n");
+    stream::print_listing(file);
+    libc::close(file);
+}

@@ -1,0 +1,143 @@
+-- What a line says is what the reader says of that frame alone: a complete frame is found whole, whatever follows it, since a doubled body
+-- scans to its own tail.
+use Prim.Native.Nat.{ℕ, suc, _+_, _≤_}
+use mathlib.Core.Bool.{Bool, true, false}
+use mathlib.Core.List.{List, [], _∷_, _++_, append-assoc, append-nil}
+use mathlib.Core.Path.{_≡_, refl, ap, _∙_}
+use native.Mathlib.Nat.{zero-add}
+use native.Mathlib.Omega.{arith}
+use borrow.Author.Tests.{le-leb, eqb-true}
+use lib.Dec.{eqb}
+use lib.ListN.{length, take, drop, length-append}
+use lib.Seq.{take-append-seam, drop-append-seam}
+use Rattle.message.proofs.Answers.{after-given, after-passed}
+use Rattle.message.proofs.Checks.{require-passed}
+use Rattle.message.specs.Answer.{refused, given, counted, passed, require, after, written}
+use Rattle.message.specs.Body.{bodyBytes}
+use Rattle.message.specs.Checks.{writable, writeChecks}
+use Rattle.message.specs.declared.Message.{Message}
+use Rattle.serial.proofs.RoundTrip.{written-reads}
+use Rattle.serial.proofs.Scans.{scan-plain, scan-doubled}
+use Rattle.serial.proofs.Tables.{row-of-start, written-row}
+use Rattle.serial.specs.Frames.{startByte, startRow, rowOf, sourceLegal, closed, started, frameRead, carries, headFields, frameBytes, frameWrite, frameCarried}
+use Rattle.serial.specs.Stuffing.{doubled, Scan, stopped, scan, escaped, frameScan}
+use Rattle.serial.specs.declared.Row.{Row}
+use Rattle.serial.specs.declared.SerialLink.the-variants.{Uart}
+use Rattle.serial.specs.declared.StartRow.the-variants.{Known, Unknown}
+use Rattle.serial.specs.declared.Stop.the-variants.{Ended, Broken, Cut}
+use Rattle.serial.specs.declared.Stop.{Stop}
+use Rattle.listing.specs.Lines.{line, lineText}
+use Rattle.listing.specs.Listing.{frameLength, said, frameLine, lines}
+use Rattle.listing.proofs.Walks.{lines-pair, lines-end, lines-frame}
+
+-- A complete frame: ESC, a start byte, a body with every ESC doubled, and the tail.
+abbrev pub complete : ℕ → List ℕ → List ℕ
+complete start body = 0x1F ∷ start ∷ (doubled body ++ (0x1F ∷ 0xFF ∷ []))
+
+module _ (start : ℕ) (row : Row) (known : startRow Uart start ≡ Known row) (body behind : List ℕ) where
+  scanned : frameScan (complete start body ++ behind) ≡ record { stop = Ended; passed = length (doubled body) + 2; body = body }
+  scanned = rw append-assoc (scan-doubled body behind)
+
+  whole : frameLength (complete start body ++ behind) ≡ length (complete start body)
+  whole = rw (scanned, length-append) (omega arith)
+
+  said-whole : said (frameScan (complete start body ++ behind) .stop) (complete start body ++ behind) ≡ frameRead Uart (complete start body)
+  unfolding said
+  said-whole =
+      let alone : frameRead Uart (take (frameLength (complete start body ++ behind)) (complete start body ++ behind)) ≡ frameRead Uart (complete start body) = rw (whole, take-append-seam) in
+      ap (λ (r : Scan). said (r .stop) (complete start body ++ behind)) scanned ∙ alone
+
+  -- The line of a complete frame is what the reader says of it alone, and the listing goes on behind it.
+  pub complete-listed : (n at : ℕ) → length (complete start body ++ behind) ≤ n
+      → lines n at (complete start body ++ behind) ≡ lineText (line at (counted (frameRead Uart (complete start body)))) ++ lines n (at + length (complete start body)) behind
+  unfolding frameLine
+  complete-listed n at h =
+      lines-frame at (complete start body ++ behind) start _ row refl known n h ∙ rw (said-whole, whole, drop-append-seam)
+
+-- So a frame that was written is listed as the message that was written.
+pub written-listed : (m : Message) (p b behind : List ℕ) (n at : ℕ) → frameWrite Uart m p ≡ written b → length (b ++ behind) ≤ n
+    → lines n at (b ++ behind) ≡ lineText (line at (given (frameCarried Uart m) (length p))) ++ lines n (at + length b) behind
+unfolding frameWrite frameBytes writeChecks counted
+written-listed m p b behind n at e h =
+    let w = after-passed (writeChecks (carries Uart) m (length p)) _ tt b e in
+    let v = after-given (require (sourceLegal Uart (m .source)) 7 passed) tt tt (frameBytes Uart m p) b (w .1) in
+    let r = rowOf (m .kind) in
+    let has = written-row Uart m (require-passed (writable (carries Uart) m) 9 _ (w .0) .0) .0 in
+    let read : counted (frameRead Uart b) ≡ given (frameCarried Uart m) (length p) = rw (written-reads Uart m p b e) in
+    let body = headFields Uart r m ++ bodyBytes m p in
+    rw (← read, ← v .2) (complete-listed (startByte Uart r) r (row-of-start Uart r has) body behind n at (rw (← v .2) at h))
+
+-- A scan over a doubled body comes to what stands behind it.
+scan-behind : (d t : List ℕ) → scan (doubled d ++ t) ≡ record { stop = scan t .stop; passed = length (doubled d) + scan t .passed; body = d ++ scan t .body }
+unfolding doubled scan escaped
+scan-behind [] t = rw zero-add
+scan-behind (b ∷ d) t = by (scan-behind d t) (eqb b 0x1F) refl
+  where
+    by : scan (doubled d ++ t) ≡ record { stop = scan t .stop; passed = length (doubled d) + scan t .passed; body = d ++ scan t .body } → (u : Bool) → eqb b 0x1F ≡ u
+        → scan (doubled (b ∷ d) ++ t) ≡ record { stop = scan t .stop; passed = length (doubled (b ∷ d)) + scan t .passed; body = b ∷ (d ++ scan t .body) }
+    by again true q =
+        let e : 2 + (length (doubled d) + scan t .passed) ≡ suc (suc (length (doubled d))) + scan t .passed = omega arith in
+        rw (q, again, e, eqb-true b 0x1F q)
+    by again false q =
+        let e : 1 + (length (doubled d) + scan t .passed) ≡ suc (length (doubled d)) + scan t .passed = omega arith in
+        rw (q, scan-plain b (doubled d ++ t) q, again, e)
+
+-- A frame that does not come to its tail: what stands behind its body stops the scan at once.
+module _ (start : ℕ) (row : Row) (known : startRow Uart start ≡ Known row) (body t : List ℕ) (n at : ℕ) where
+  stops : (how : Stop) → scan t ≡ stopped how 0 → length (0x1F ∷ start ∷ (doubled body ++ t)) ≤ n
+      → lines n at (0x1F ∷ start ∷ (doubled body ++ t)) ≡ lineText (line at (counted (said how (0x1F ∷ start ∷ (doubled body ++ t))))) ++ lines n (at + (2 + length (doubled body))) t
+  unfolding frameLine
+  stops how e h =
+      let far : 2 + (length (doubled body) + 0) ≡ 2 + length (doubled body) = omega arith in
+      let next : 2 + length (doubled body) ≡ suc (suc (length (doubled body))) = omega arith in
+      lines-frame at (0x1F ∷ start ∷ (doubled body ++ t)) start _ row refl known n h ∙ rw (scan-behind body t, e, far, next, drop-append-seam)
+
+-- "An ESC and start byte break the frame off (3) and begin a new one there; ESC with another wrong byte gives 3 and the hunt goes on after
+-- the pair."
+module _ (start : ℕ) (row : Row) (known : startRow Uart start ≡ Known row) (body : List ℕ) (x : ℕ) (behind : List ℕ) (n at : ℕ) where
+  module _ (no-esc : eqb x 0x1F ≡ false) (no-tail : eqb x 0xFF ≡ false) (long : length (0x1F ∷ start ∷ (doubled body ++ (0x1F ∷ x ∷ behind))) ≤ n) where
+    broken : lines n at (0x1F ∷ start ∷ (doubled body ++ (0x1F ∷ x ∷ behind))) ≡ lineText (line at (refused 3)) ++ lines n (at + (2 + length (doubled body))) (0x1F ∷ x ∷ behind)
+    unfolding said counted scan escaped
+    broken = stops start row known body (0x1F ∷ x ∷ behind) n at Broken (rw (no-esc, no-tail)) long
+
+    left : length (0x1F ∷ x ∷ behind) ≤ n
+    left = omega (arith, length-append (doubled body) (0x1F ∷ x ∷ behind))
+
+    pub broken-by-start : (row₂ : Row) → startRow Uart x ≡ Known row₂
+        → let f : List ℕ = 0x1F ∷ x ∷ behind in
+        let there = at + (2 + length (doubled body)) in
+        lines n at (0x1F ∷ start ∷ (doubled body ++ f)) ≡ lineText (line at (refused 3)) ++ (frameLine there f ++ lines n (there + frameLength f) (drop (frameLength f) f))
+    broken-by-start row₂ e = broken ∙ rw (lines-frame (at + (2 + length (doubled body))) (0x1F ∷ x ∷ behind) x behind row₂ refl e n left)
+
+    pub broken-by-other : startRow Uart x ≡ Unknown → lines n at (0x1F ∷ start ∷ (doubled body ++ (0x1F ∷ x ∷ behind))) ≡ lineText (line at (refused 3)) ++ lines n (at + (2 + length (doubled body)) + 2) behind
+    broken-by-other e = broken ∙ rw (lines-pair (at + (2 + length (doubled body))) n x behind e)
+
+-- "An unfinished last frame gives 1", also with a last ESC.
+module _ (start : ℕ) (row : Row) (known : startRow Uart start ≡ Known row) (body : List ℕ) (n at : ℕ) where
+  unfinished : (t : List ℕ) → scan t ≡ stopped Cut 0 → length t ≤ 1 → length (0x1F ∷ start ∷ (doubled body ++ t)) ≤ n → lines n at (0x1F ∷ start ∷ (doubled body ++ t)) ≡ lineText (line at (refused 1))
+  unfolding said counted
+  unfinished t e short long = stops start row known body t n at Cut e long ∙ rw (lines-end (at + (2 + length (doubled body))) n t short, append-nil)
+
+  pub unfinished-body : length (0x1F ∷ start ∷ (doubled body ++ [])) ≤ n → lines n at (0x1F ∷ start ∷ (doubled body ++ [])) ≡ lineText (line at (refused 1))
+  unfolding scan
+  unfinished-body = unfinished [] refl (omega arith)
+
+  pub unfinished-esc : length (0x1F ∷ start ∷ (doubled body ++ (0x1F ∷ []))) ≤ n → lines n at (0x1F ∷ start ∷ (doubled body ++ (0x1F ∷ []))) ≡ lineText (line at (refused 1))
+  unfolding scan
+  unfinished-esc = unfinished (0x1F ∷ []) refl (omega arith)
+
+-- Of a frame that is broken off or unfinished, the line says what the reader says of all that is left.
+pub unfinished-read : (start : ℕ) (row : Row) (s : List ℕ) → startRow Uart start ≡ Known row → (scan s .stop ≡ Ended → ⊥) → said (scan s .stop) (0x1F ∷ start ∷ s) ≡ frameRead Uart (0x1F ∷ start ∷ s)
+unfolding said frameRead started closed require after
+unfinished-read start row s known unended = by (scan s .stop) refl
+  where
+    one : 1 ≤ length (0x1F ∷ start ∷ s)
+    one = omega arith
+
+    two : 2 ≤ length (0x1F ∷ start ∷ s)
+    two = omega arith
+
+    by : (stop : Stop) → scan s .stop ≡ stop → said (scan s .stop) (0x1F ∷ start ∷ s) ≡ frameRead Uart (0x1F ∷ start ∷ s)
+    by Ended e = absurd (unended e)
+    by Broken e = rw (le-leb _ _ one, le-leb _ _ two, known, e)
+    by Cut e = rw (le-leb _ _ one, le-leb _ _ two, known, e)
