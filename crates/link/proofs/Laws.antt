@@ -1,5 +1,5 @@
 -- What a caller needs to know of a link, whichever it is: carried by each link's checks, which come before its bytes.
-use Prim.Native.Nat.{ℕ, _+_, _/_, _≤_, _<_}
+use Prim.Native.Nat.{ℕ, _+_, _≤_, _<_}
 use mathlib.Core.Bool.{Bool, true, false, or-true}
 use mathlib.Core.List.{List, [], _++_}
 use mathlib.Core.Path.{_≡_, refl}
@@ -21,7 +21,6 @@ use Rattle.can.specs.Can.{seriesType, identifier, frame, inSeries, canBytes, ca
 use Rattle.can.proofs.Writing.{identifier-length, frame-length, message-length, single-most}
 use Rattle.csp.specs.Csp.{cspHead, cspCarries, cspRead, cspWrite}
 use Rattle.serial.specs.Frames.{rowOf, headLength, headFields, sourceLegal, carries, frameBytes, frameRead, frameWrite}
-use Rattle.serial.specs.Stuffing.{doubled}
 use Rattle.serial.specs.declared.Row.{Row}
 use Rattle.serial.specs.declared.Row.the-variants as Row·of
 use Rattle.serial.specs.declared.SerialLink.{SerialLink}

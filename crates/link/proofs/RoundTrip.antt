@@ -1,12 +1,12 @@
 -- Both round trips of demand 2, over every link: carried by each link's own, and by the table of carried fields.
 use Prim.Native.Nat.{ℕ, _≤_}
-use mathlib.Core.Bool.{false, cond}
+use mathlib.Core.Bool.{false}
 use mathlib.Core.List.{List}
-use mathlib.Core.Path.{_≡_, refl, ap, _∙_}
+use mathlib.Core.Path.{_≡_, refl}
 use lib.ListN.{length}
 use Rattle.message.specs.Answer.{given, within, written}
 use Rattle.message.specs.Checks.{writable, writeChecks}
-use Rattle.message.specs.Kinds.{errorLength, isEvent, isNack, carried}
+use Rattle.message.specs.Kinds.{isEvent, carried}
 use Rattle.message.specs.declared.Kind.{Kind}
 use Rattle.message.specs.declared.Kind.the-variants.{Telecommand, TelecommandAck, TelecommandNack, TelemetryRequest, TelemetryResponse, TelemetryNack, Event}
 use Rattle.message.specs.declared.Message.{Message}
@@ -20,6 +20,7 @@ use Rattle.serial.specs.Frames as frames
 use Rattle.serial.specs.declared.SerialLink.the-variants as SerialLink·of
 use Rattle.serial.proofs.RoundTrip as serial
 use Rattle.link.specs.Link.{linkRead, linkWrite, idCarried, addressCarried, errorCarried, indexCarried, linkCarried, mostBytes}
+use Rattle.link.specs.RoundTrip.{WrittenReads, ReadWrites}
 use Rattle.link.specs.declared.Link.{Link}
 use Rattle.link.specs.declared.Link.the-variants.{Uart, Rs485, Can, Csp}
 use Rattle.link.proofs.Laws.{Legal, within-given, bytes-most, legal-writes}
@@ -63,11 +64,11 @@ bytes-read Can m p b e = rw (← can-carried m) (can.written-reads m p b e)
 bytes-read Csp m p b e = rw (← csp-carried m p b e) (csp.written-reads m p b e)
 
 -- Reading what was written returns every field that the link and the kind carry, 0 in the others, and the payload.
-pub written-reads : (l : Link) (m : Message) (p out b : List ℕ) → within out (linkWrite l m p) ≡ written b → linkRead l b ≡ given (linkCarried l m) p
+pub written-reads : WrittenReads
 written-reads l m p out b e = bytes-read l m p b (within-given out (linkWrite l m p) tt b e .0)
 
 -- Writing what was read returns the bytes.
-pub read-writes : (l : Link) (b : List ℕ) (m : Message) (p : List ℕ) → linkRead l b ≡ given m p → linkWrite l m p ≡ written b
+pub read-writes : ReadWrites
 unfolding linkWrite linkRead
 read-writes Uart b m p e = serial.read-writes SerialLink·of.Uart b m p e
 read-writes Rs485 b m p e = serial.read-writes SerialLink·of.Rs485 b m p e

@@ -1,34 +1,31 @@
 -- What an arrival of the sender's request does to the table, and what the unit's answer to it means. One line for each situation.
-use Prim.Native.Nat.{ℕ, _+_, _*_, _-_, _≤_, _<_, min}
-use mathlib.Core.Bool.{Bool, true, false, cond, _&&_}
+use Prim.Native.Nat.{ℕ, _+_, _-_, _<_}
+use mathlib.Core.Bool.{Bool, true, false}
 use mathlib.Core.List.{List, _++_}
-use mathlib.Core.Path.{_≡_, refl, sym, ap, _∙_}
+use mathlib.Core.Path.{_≡_, refl, sym}
 use native.Mathlib.Omega.{arith}
 use borrow.Author.Tests.{eq-eqb, ne-eqb, lt-ltb, le-ltb, eqb-true, eqb-false}
-use lib.Dec.{ltb, eqb}
+use lib.Dec.{eqb}
 use lib.ListN.{length, take, drop, replicate}
 use lib.Seq.{take-at}
-use Rattle.message.specs.Answer.{Answer, given}
+use Rattle.message.specs.Answer.{given}
 use Rattle.message.specs.Kinds.{isEvent}
-use Rattle.little_endian.specs.LittleEndian.{toBytes, fromBytes}
 use Rattle.little_endian.proofs.Laws.{to-length, from-to}
-use Rattle.file.specs.File.{frameCount, fileFrame}
+use Rattle.file.specs.File.{fileFrame}
 use Rattle.link.specs.Link.{idCarried, linkCarried, linkRead}
-use Rattle.device.specs.Receive.{Reply, answers, receive}
 use Rattle.device.specs.declared.Device.{Device}
-use Rattle.upload.specs.Round.{meaning}
 use Rattle.upload.specs.Sender.{requestPayload}
 use Rattle.upload.specs.declared.Meaning.{Meaning}
 use Rattle.upload.specs.declared.Meaning.the-variants.{Stay, Forward}
 use Rattle.upload.specs.declared.Stage.{Stage}
 use Rattle.upload.specs.declared.Stage.the-variants.{Frame, Back, Compare, Take, Confirm}
 use Rattle.upload.specs.declared.State.the-variants.{Running}
-use Rattle.upload.specs.Stored.{Mark, waiting, taken, stored, isTake, markTaken}
+use Rattle.upload.specs.Stored.{isTake, markTaken}
 use Rattle.upload.proofs.Exchange.{requestRead}
 use Rattle.upload.proofs.Files.{count-legal, frame-some, frame-most, remains}
 use Rattle.upload.proofs.Served.{Served, served-frame, served-compare, served-take, served-pending, served-stored, served-waiting, served-confirmed}
 use Rattle.upload.proofs.Situations.{unitAt}
-use Rattle.upload.proofs.Table.{Upload, Buffer, free, loaded, pending, isPending, Stands, Quiet, Goes, Leads, markOf, frames, Holding, UnitAt, sender}
+use Rattle.upload.proofs.Table.{Upload, Buffer, free, loaded, pending, isPending, Stands, Quiet, Leads, markOf, frames, Holding, sender}
 
 -- The buffer after the arrival of a stage's request.
 abbrev pub arrivedBuffer : Stage → Buffer → Buffer
@@ -122,7 +119,7 @@ module _ (u : Upload) (b : List ℕ) (f since rounds store : ℕ) (h : f < frame
         buffer = buffer;
         buffered = buffered;
         meant = Forward;
-        serves = served-take (u .link) (u .source) (u .destination) (u .own) (u .addressed) (u .file) (length (u .file)) f store since rounds b buffer buffered r h small (rw content (frame-some (u .file) f h)) (rw content (remains (u .file) f h));
+        serves = served-take (u .link) (u .source) (u .destination) (u .own) (u .addressed) (u .file) (length (u .file)) f store since rounds b buffer buffered r h small (rw content (frame-some (u .file) f h)) (rw content (remains (u .file) f));
         holding = rw (← e) c;
         leads = tt;
       })

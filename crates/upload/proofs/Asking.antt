@@ -7,10 +7,9 @@ use native.Mathlib.Omega.{arith}
 use borrow.Author.Tests.{eq-eqb, le-leb}
 use lib.Dec.{leb}
 use lib.ListN.{length}
-use Rattle.message.specs.Answer.{Answer, given, passed, require, after, within}
+use Rattle.message.specs.Answer.{Answer, given, require, after, within}
 use Rattle.message.specs.Checks.{idLegal, payloadLegal, errorLegal, fieldChecks, told}
 use Rattle.message.specs.Kinds.{inside, isEvent}
-use Rattle.little_endian.specs.LittleEndian.{toBytes}
 use Rattle.little_endian.proofs.Laws.{to-length}
 use Rattle.link.specs.Link.{linkRead, mostBytes}
 use Rattle.link.proofs.RoundTrip.{Arrives}

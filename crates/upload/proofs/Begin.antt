@@ -1,19 +1,17 @@
 -- An accepted setup and a started sender stand at the head of the table. Carried by taking the unit's and the sender's own definitions
 -- apart: which tests passed, and what was made then.
-use Prim.Native.Nat.{ℕ, _+_, _*_, _≤_, _<_, min, zero-le}
-use mathlib.Core.Bool.{Bool, true, false, cond, not, _&&_, _||_}
-use mathlib.Core.List.{List, [], _∷_, _++_}
-use mathlib.Core.Path.{_≡_, refl, sym, ap, _∙_}
+use Prim.Native.Nat.{ℕ, _≤_, min, zero-le}
+use mathlib.Core.Bool.{Bool, true, false, cond, not, _||_}
+use mathlib.Core.List.{List, []}
+use mathlib.Core.Path.{_≡_, refl, sym, _∙_}
 use native.Mathlib.Omega.{arith}
 use borrow.Author.Tests.{ltb-true, ltb-false, le-ltb, ne-eqb}
-use lib.Dec.{ltb, eqb}
-use lib.ListN.{length, take, drop}
-use Rattle.message.specs.Answer.{Answer, Check, refused, given, passed, failed, require, within}
-use Rattle.message.specs.declared.Message.{Message}
+use lib.Dec.{ltb}
+use lib.ListN.{length}
+use Rattle.message.specs.Answer.{Answer, Check, refused, given, passed, failed, require}
 use Rattle.message.proofs.Checks.{require-passed, both-true}
 use Rattle.little_endian.specs.LittleEndian.{fromBytes}
 use Rattle.file.specs.File.{sizeLegal, frameCount}
-use Rattle.link.specs.Link.{linkRead, linkWrite}
 use Rattle.link.specs.declared.Link.{Link}
 use Rattle.link.specs.declared.Link.the-variants.{Uart, Rs485, Can, Csp}
 use Rattle.link.proofs.Laws.{within-given}
@@ -21,13 +19,13 @@ use Rattle.device.specs.Commands.{fault, setupFault, commandFault, setupDone, c
 use Rattle.device.specs.Receive.{Reply, answers, silent, isTaken, answered, commandReply, kindReply, messageReply, receive}
 use Rattle.device.specs.declared.Device.{Device}
 use Rattle.device.specs.declared.Fault.{Fault}
-use Rattle.device.specs.declared.Fault.the-variants.{None, Nack}
+use Rattle.device.specs.declared.Fault.the-variants.{None}
 use Rattle.upload.specs.Sender.{newSender, addressesLegal, checked, start}
 use Rattle.upload.specs.declared.Sender.{Sender}
 use Rattle.upload.specs.declared.Stage.the-variants.{Frame}
 use Rattle.upload.specs.Demand.{Start, goodRounds}
 use Rattle.upload.specs.Legal.{between}
-use Rattle.upload.specs.Stored.{Mark, waiting}
+use Rattle.upload.specs.Stored.{waiting}
 use Rattle.upload.specs.World.{World}
 use Rattle.upload.proofs.Counting.{lull-none}
 use Rattle.upload.proofs.Exchange.{Addressed}
@@ -128,25 +126,23 @@ module _ (file : List ℕ) (w : World) (st : Start file w) where
   begins =
       let some = count-legal (length file) (size-check .0) .0 in
       runs (record {
-        stage = Frame;
-        frame = 0;
-        stored = 0;
-        buffer = free;
-        since = 0;
-        unit = record {
-          buffer = st .unit .buffer;
-          buffered = 0;
-          device = setup-done ∙ setup-unit (st .unit) (length file) (setup-tests .0) some;
-          holding = omega arith;
-          stores = sym (store-first file (w .store));
-          marked = λ j. rw (le-ltb j 0 zero-le);
+        row = record {
+          stage = Frame;
+          frame = 0;
+          stored = 0;
+          buffer = free;
+          unit = record {
+            buffer = st .unit .buffer;
+            buffered = 0;
+            device = setup-done ∙ setup-unit (st .unit) (length file) (setup-tests .0) some;
+            holding = omega arith;
+            stores = sym (store-first file (w .store));
+            marked = λ j. rw (le-ltb j 0 zero-le);
+          };
+          stands = refl;
         };
+        since = 0;
         sends = sym (sender-checks .1);
-        stands = refl;
         place = tt;
-        below = omega arith;
-        few = omega arith;
-        lull = lull-none [];
-        rounds = omega arith;
-        good = omega arith;
+        course = record { below = omega arith; few = omega arith; lull = lull-none []; rounds = omega arith; good = omega arith };
       })

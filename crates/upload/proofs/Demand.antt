@@ -2,29 +2,26 @@
 use Prim.Native.Nat.{ℕ, _+_, _*_, _≤_, _<_, min}
 use mathlib.Core.Bool.{Bool, true, false, cond, _&&_}
 use mathlib.Core.List.{List, [], _∷_, _++_, append-nil}
-use mathlib.Core.Path.{_≡_, refl, sym, ap, _∙_}
+use mathlib.Core.Path.{_≡_, refl, ap}
 use native.Mathlib.Omega.{arith}
 use borrow.Author.Tests.{eq-eqb, lt-ltb, le-ltb}
-use lib.Dec.{ltb, eqb}
+use lib.Dec.{eqb}
 use lib.ListN.{length, take, drop}
-use Rattle.file.specs.File.{frameCount}
 use Rattle.device.specs.declared.Device.{Device}
 use Rattle.device.specs.declared.Phase.the-variants as Phase·of
 use Rattle.upload.specs.Sender.{isRunning, framesKnown}
-use Rattle.upload.specs.declared.Sender.{Sender}
 use Rattle.upload.specs.declared.Stage.{Stage}
 use Rattle.upload.specs.declared.Stage.the-variants.{Frame, Back, Compare, Take, Confirm}
-use Rattle.upload.specs.declared.State.{State}
-use Rattle.upload.specs.declared.State.the-variants.{Running, Finished, GivenUp}
-use Rattle.upload.specs.Demand.{Start, goodRounds, NoFiftyWithout, Upheld, Demand}
-use Rattle.upload.specs.Legal.{Place, between, Legal, stops, refuses, workDone, requestMade, requestArrives, requestRepeats, delivered, requestLost, answerLost, twice, endedWorks, endedAsks, endedHears}
+use Rattle.upload.specs.declared.State.the-variants.{Finished, GivenUp}
+use Rattle.upload.specs.Demand.{goodRounds, NoFiftyWithout, Demand}
+use Rattle.upload.specs.Legal.{Place, Legal, stops, refuses, workDone, requestMade, requestArrives, requestRepeats, delivered, requestLost, answerLost, twice, endedWorks, endedAsks, endedHears}
 use Rattle.upload.specs.Stored.{Mark, waiting, taken, stored, isStored, countStored, markAfter, framesStored}
 use Rattle.upload.specs.World.{World, Call, run}
 use Rattle.upload.proofs.Begin.{upload, begins}
 use Rattle.upload.proofs.Counting.{count-below, fifty-without}
 use Rattle.upload.proofs.Files.{whole-file}
 use Rattle.upload.proofs.Keeps.{keeps}
-use Rattle.upload.proofs.Table.{Upload, Buffer, free, loaded, pending, isPending, Stands, steps, markOf, frames, Holding, UnitAt, sender, Running·, GivenUp·, Finished·, Invariant, runs, gaveUp, done}
+use Rattle.upload.proofs.Table.{Upload, Buffer, free, loaded, pending, isPending, Stands, steps, markOf, frames, Holding, UnitAt, sender, Invariant, runs, gaveUp, done}
 
 -- A beginning of a legal list is legal.
 cut : (P : List Call → Type 0) (a b : List Call) (c : Call) (h : List Call) → c ∷ h ≡ a ++ b → P [] → ((a′ : List Call) → h ≡ a′ ++ b → P (c ∷ a′)) → P a
@@ -106,11 +103,11 @@ module _ (u : Upload) (w : World) (past : List Bool) (marks : ℕ → Mark) wher
   moment : {p : Place} → Invariant u w past marks p → Moment u w past marks
   unfolding framesKnown
   moment (runs h) =
-      let k = known-between (h .stage) (h .buffer) (h .frame) (h .stored) (h .stands) in
-      moment-at (h .stored) (h .buffer) (h .unit) (rw (h .sends) (k .0)) (rw (h .sends) (k .1)) (rw (h .sends))
+      let k = known-between (h .row .stage) (h .row .buffer) (h .row .frame) (h .row .stored) (h .row .stands) in
+      moment-at (h .row .stored) (h .row .buffer) (h .row .unit) (rw (h .sends) (k .0)) (rw (h .sends) (k .1)) (rw (h .sends))
   moment (gaveUp h) =
-      let k = known-between (h .stage) (h .buffer) (h .frame) (h .stored) (h .stands) in
-      moment-at (h .stored) (h .buffer) (h .unit) (rw (h .sends) (k .0)) (rw (h .sends) (k .1)) (rw (h .sends))
+      let k = known-between (h .row .stage) (h .row .buffer) (h .row .frame) (h .row .stored) (h .row .stands) in
+      moment-at (h .row .stored) (h .row .buffer) (h .row .unit) (rw (h .sends) (k .0)) (rw (h .sends) (k .1)) (rw (h .sends))
   moment (done h) = moment-at (frames u) free (h .unit) (rw (h .sends) (omega (arith, h .last))) (rw (h .sends) (omega (arith, h .last))) (rw (h .sends))
 
   few-steps : (stage : Stage) → steps stage ≤ 3
@@ -122,7 +119,7 @@ module _ (u : Upload) (w : World) (past : List Bool) (marks : ℕ → Mark) wher
 
   -- A running sender has had fewer than 200 rounds a frame, and fewer than four good ones.
   end : {p : Place} → Invariant u w past marks p → 200 * frames u ≤ length past → isRunning (w .sender .state) ≡ false
-  end (runs h) most = absurd (omega (arith, h .rounds, h .below, h .few, few-steps (h .stage)))
+  end (runs h) most = absurd (omega (arith, h .course .rounds, h .course .below, h .course .few, few-steps (h .row .stage)))
   end (gaveUp h) most = rw (h .sends)
   end (done h) most = rw (h .sends)
 
@@ -132,7 +129,7 @@ module _ (u : Upload) (w : World) (past : List Bool) (marks : ℕ → Mark) wher
   persist (done h) none e = absurd (let z : _≡_ {A = ℕ} 0 1 = cc (rw (h .sends) at e) in omega arith)
 
   finish : {p : Place} → Invariant u w past marks p → NoFiftyWithout past → 4 * frames u ≤ goodRounds past → w .sender .state ≡ Finished
-  finish (runs h) none most = absurd (omega (arith, h .good, h .below, few-steps (h .stage)))
+  finish (runs h) none most = absurd (omega (arith, h .course .good, h .course .below, few-steps (h .row .stage)))
   finish (gaveUp h) none most = absurd (fifty-without past [] (h .lull) (rw append-nil none))
   finish (done h) none most = rw (h .sends)
 
@@ -143,7 +140,7 @@ module _ (u : Upload) (w : World) (past : List Bool) (marks : ℕ → Mark) wher
   hold (runs h) e = absurd (let z : _≡_ {A = ℕ} 0 1 = cc (rw (h .sends) at e) in omega arith)
   hold (gaveUp h) e = absurd (let z : _≡_ {A = ℕ} 0 1 = cc (rw (h .sends) at e) in omega arith)
   hold (done h) e = (
-    rw (h .unit .stores) (whole-file (u .file) (u .start) (u .room)),
+    rw (h .unit .stores) (whole-file (u .file) (u .start)),
     rw (h .unit .device, eq-eqb (frames u) (frames u) refl),
     rw (h .sends) (h .last),
   )

@@ -1,7 +1,7 @@
 -- The link enters the upload here alone: a request arrives at the unit as it was asked, and the unit's answer at the sender as it was
 -- given, from the unit's address to the sender's. Carried by the links' round trip.
-use Prim.Native.Nat.{ℕ, _≤_, _<_}
-use mathlib.Core.Bool.{Bool, true, false, not, _&&_, _||_}
+use Prim.Native.Nat.{ℕ, _<_}
+use mathlib.Core.Bool.{true, false, not, _&&_, _||_}
 use mathlib.Core.List.{List}
 use mathlib.Core.Path.{_≡_, refl, sym}
 use borrow.Author.Tests.{eq-eqb}
@@ -10,11 +10,11 @@ use lib.ListN.{length}
 use Rattle.message.specs.Answer.{given, passed}
 use Rattle.message.specs.Checks.{payloadLegal, fieldChecks, told}
 use Rattle.message.specs.Kinds.{isEvent, isNack}
-use Rattle.message.specs.declared.ErrorByte.the-variants.{Told, NotTold}
+use Rattle.message.specs.declared.ErrorByte.the-variants.{Told}
 use Rattle.message.specs.declared.Kind.{Kind}
 use Rattle.message.specs.declared.Kind.the-variants.{TelecommandNack}
 use Rattle.message.specs.declared.Message.{Message}
-use Rattle.link.specs.Link.{carriesAddresses, idCarried, addressCarried, errorCarried, linkCarried}
+use Rattle.link.specs.Link.{carriesAddresses, addressCarried, errorCarried, linkCarried}
 use Rattle.link.specs.declared.Link.{Link}
 use Rattle.link.specs.declared.Link.the-variants.{Uart, Rs485, Can, Csp}
 use Rattle.link.proofs.Laws.{Legal}

@@ -1,18 +1,18 @@
 -- Which fault a request of the sender meets at a unit that has stored i frames: carried by the tests of the table, in their order.
 use Prim.Native.Nat.{ℕ, _+_, _*_, _-_, _%_, _≤_, _<_, min}
-use mathlib.Core.Bool.{Bool, true, false, cond, not}
+use mathlib.Core.Bool.{Bool, true, false, cond}
 use mathlib.Core.List.{List}
 use mathlib.Core.Path.{_≡_, refl}
 use native.Mathlib.Omega.{arith}
-use borrow.Author.Tests.{eq-eqb, ne-eqb, le-ltb, eqb-true}
+use borrow.Author.Tests.{eq-eqb, ne-eqb, le-ltb}
 use lib.Dec.{eqb}
 use lib.ListN.{length, take}
-use Rattle.little_endian.specs.LittleEndian.{toBytes, fromBytes}
+use Rattle.little_endian.specs.LittleEndian.{toBytes}
 use Rattle.little_endian.proofs.Laws.{to-length, from-to}
 use Rattle.file.specs.File.{frameCount}
 use Rattle.link.specs.declared.Link.{Link}
 use Rattle.device.specs.Commands.{fault, takeFault, frameFault, commandFault}
-use Rattle.device.specs.Device.{isIdle, isFinished, frame}
+use Rattle.device.specs.Device.{isIdle, frame}
 use Rattle.device.specs.declared.Fault.the-variants.{None, Nack}
 use Rattle.device.specs.declared.Phase.the-variants as Phase·of
 use Rattle.upload.proofs.Situations.{unitAt}

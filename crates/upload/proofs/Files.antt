@@ -47,8 +47,8 @@ module _ (file : List ℕ) where
       by false e = ne-eqb (min (256 * (i + 1)) (length file)) (length file) (λ q. eqb-false (i + 1) (frameCount (length file)) e (omega arith))
 
     -- A frame is no longer than what is not stored yet.
-    pub remains : i < frameCount (length file) → length (fileFrame file i) ≤ length file - min (256 * i) (length file)
-    remains h = rw frame-length (omega arith)
+    pub remains : length (fileFrame file i) ≤ length file - min (256 * i) (length file)
+    remains = rw frame-length (omega arith)
 
   -- A store with the file's first i frames over its beginning.
   module _ (store : List ℕ) where
@@ -59,19 +59,18 @@ module _ (file : List ℕ) where
     beginning-length i fits = simp (length-append, length-take, length-drop) (omega arith)
 
     -- Frame i written behind them.
-    pub store-next : (i : ℕ) → length file ≤ length store
+    pub store-next : (i : ℕ)
         → let s = take (256 * i) file ++ drop (min (256 * i) (length file)) store in
         take (min (256 * i) (length file)) s ++ (fileFrame file i ++ drop (min (256 * i) (length file) + length (fileFrame file i)) s)
         ≡ take (256 * (i + 1)) file ++ drop (min (256 * (i + 1)) (length file)) store
     unfolding fileFrame
-    store-next i fits =
+    store-next i =
         let m = min (256 * i) (length file) in
         let size = length-take (256 * i) file in
         let more : 256 * (i + 1) ≡ 256 * i + 256 = omega arith in
         rw (take-at (take (256 * i) file) (drop m store) m size, ← drop-drop, drop-at (take (256 * i) file) (drop m store) m size, drop-drop, stored-next i, more, take-add, append-assoc)
 
     -- With all frames there, the file is the store's beginning.
-    pub whole-file : length file ≤ length store
-        → take (length file) (take (256 * frameCount (length file)) file ++ drop (min (256 * frameCount (length file)) (length file)) store) ≡ file
+    pub whole-file : take (length file) (take (256 * frameCount (length file)) file ++ drop (min (256 * frameCount (length file)) (length file)) store) ≡ file
     unfolding frameCount
-    whole-file fits = rw (take-all (256 * frameCount (length file)) file (omega arith), take-at file _ (length file) refl)
+    whole-file = rw (take-all (256 * frameCount (length file)) file (omega arith), take-at file _ (length file) refl)

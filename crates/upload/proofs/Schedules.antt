@@ -1,12 +1,12 @@
 -- Every sequence of rounds gives a legal list: with an output that every message fits no call of a round is refused.
 use Prim.Native.Nat.{ℕ, _≤_}
-use mathlib.Core.Bool.{Bool, true, false, cond, _&&_}
+use mathlib.Core.Bool.{Bool, true, false, _&&_}
 use mathlib.Core.List.{List, [], _∷_, _++_}
-use mathlib.Core.Path.{_≡_, refl, sym, ap, _∙_}
+use mathlib.Core.Path.{_≡_, refl, ap}
 use native.Mathlib.Omega.{arith}
 use borrow.Author.Tests.{eq-eqb, le-leb}
 use lib.ListN.{length, length-replicate}
-use Rattle.message.specs.Answer.{Answer, given, within, passed, require, after}
+use Rattle.message.specs.Answer.{Answer, given, within, require, after}
 use Rattle.link.specs.Link.{mostBytes}
 use Rattle.link.specs.declared.Link.{Link}
 use Rattle.link.specs.declared.Link.the-variants.{Uart, Rs485, Can, Csp}
@@ -16,7 +16,6 @@ use Rattle.device.specs.declared.Device.{Device}
 use Rattle.upload.specs.Round.{hear}
 use Rattle.upload.specs.Sender.{isRunning, checked, sameFile, request}
 use Rattle.upload.specs.Sender as sent
-use Rattle.upload.specs.Demand.{Start}
 use Rattle.upload.specs.Legal.{Place, begun, asked, arrived, repeated, between, Legal, stops, workDone, requestMade, requestArrives, requestRepeats, delivered, requestLost, answerLost, twice}
 use Rattle.upload.specs.Schedule.{Fate, deliver, loseRequest, loseAnswer, double, Round, comesBack, isGood, goods, output, exchange, requested, roundCalls, scheduled, Realised, EverySchedule}
 use Rattle.upload.specs.Stored.{Mark, waiting}
@@ -26,7 +25,7 @@ use Rattle.upload.proofs.Asking.{asks-bytes}
 use Rattle.upload.proofs.Begin.{upload, begins}
 use Rattle.upload.proofs.Keeps.{keeps-work, keeps-ask, keeps-arrive, again, keeps-lost, keeps-delivered, running, marksAfter}
 use Rattle.upload.proofs.Situations.{unitAt}
-use Rattle.upload.proofs.Table.{Upload, isPending, Quiet, UnitAt, Asked, Running·, Invariant, runs}
+use Rattle.upload.proofs.Table.{Upload, isPending, Quiet, Asked, Running·, Invariant}
 use Rattle.upload.proofs.Working.{work-free}
 
 -- No link needs more room.
@@ -43,20 +42,20 @@ fits-output l x a b e h = rw (e, le-leb (length b) (length output) (omega (arith
 module _ (u : Upload) (w : World) (past : List Bool) (marks : ℕ → Mark) (p : Place) (h : Running· u p w past marks) where
   works-free : isRefused (u .file) w (works shared) ≡ false
   unfolding isRefused lent
-  works-free = work-free u (h .stored) (h .buffer) (w .device) (w .store) marks (h .unit)
+  works-free = work-free u (h .row .stored) (h .row .buffer) (w .device) (w .store) marks (h .row .unit)
 
   asks-free : isRefused (u .file) w (asks shared output) ≡ false
   unfolding isRefused lent
   asks-free =
-      let b = asks-bytes u (w .sender) (h .stage) (h .frame) (h .since) (length past) (h .sends) in
+      let b = asks-bytes u (w .sender) (h .row .stage) (h .row .frame) (h .since) (length past) (h .sends) in
       fits-output (u .link) (request (w .sender) (u .file)) sent.asks (b .0) (b .1) (b .2)
 
-  arrives-free : (d : Bool) → Quiet d (h .stage) (h .buffer) → Asked u w (h .stage) (h .frame) → isRefused (u .file) w (arrives (w .request) shared output) ≡ false
+  arrives-free : (d : Bool) → Quiet d (h .row .stage) (h .row .buffer) → Asked u w (h .row .stage) (h .row .frame) → isRefused (u .file) w (arrives (w .request) shared output) ≡ false
   unfolding isRefused lent
   arrives-free d quiet request =
-      let a = arrival u (w .request) (h .frame) (h .since) (length past) (length (w .store)) (h .below) d (h .stage) (h .buffer) (h .stored) (h .unit .buffer) (h .unit .buffered) request (h .stands) quiet (h .unit .holding) in
-      let unit : Device = unitAt (u .link) (u .own) (length (u .file)) (h .stored) (a .buffer) (a .buffered) (isPending (arrivedBuffer (h .stage) (h .buffer))) in
-      fits-output (u .link) (receive (w .device) (length (w .store)) (w .request)) (answers unit) (a .serves .bytes) (rw (h .unit .device) (a .serves .gives)) (a .serves .short)
+      let a = arrival u (w .request) (h .row .frame) (h .since) (length past) (length (w .store)) (h .course .below) d (h .row .stage) (h .row .buffer) (h .row .stored) (h .row .unit .buffer) (h .row .unit .buffered) request (h .row .stands) quiet (h .row .unit .holding) in
+      let unit : Device = unitAt (u .link) (u .own) (length (u .file)) (h .row .stored) (a .buffer) (a .buffered) (isPending (arrivedBuffer (h .row .stage) (h .row .buffer))) in
+      fits-output (u .link) (receive (w .device) (length (w .store)) (w .request)) (answers unit) (a .serves .bytes) (rw (h .row .unit .device) (a .serves .gives)) (a .serves .short)
 
   hears-free : (b : List ℕ) → isRefused (u .file) w (hears shared b) ≡ false
   unfolding isRefused lent hear sameFile checked isRefusal require

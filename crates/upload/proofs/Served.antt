@@ -5,29 +5,26 @@ use mathlib.Core.Bool.{Bool, true, false, cond}
 use mathlib.Core.List.{List, [], _∷_, _++_}
 use mathlib.Core.Path.{_≡_, refl, _∙_}
 use native.Mathlib.Omega.{arith}
-use borrow.Author.Tests.{eq-eqb, ne-eqb, le-leb}
+use borrow.Author.Tests.{eq-eqb, ne-eqb}
 use lib.Dec.{eqb}
 use lib.ListN.{length, getD, take, drop, replicate}
-use Rattle.message.specs.Answer.{given, passed, require}
+use Rattle.message.specs.Answer.{given, require}
 use Rattle.message.specs.Checks.{idLegal, payloadLegal, errorLegal, fieldChecks, told}
-use Rattle.message.specs.Kinds.{inside, isEvent, isAck, isNack}
-use Rattle.message.specs.declared.ErrorByte.the-variants.{Told}
+use Rattle.message.specs.Kinds.{inside, isEvent}
 use Rattle.message.specs.declared.Kind.{Kind}
-use Rattle.message.specs.declared.Kind.the-variants.{Telecommand, TelecommandAck, TelecommandNack, TelemetryRequest, TelemetryResponse}
+use Rattle.message.specs.declared.Kind.the-variants.{TelecommandAck, TelecommandNack, TelemetryResponse}
 use Rattle.message.specs.declared.Message.{Message}
 use Rattle.little_endian.specs.LittleEndian.{toBytes, fromBytes}
-use Rattle.little_endian.proofs.Laws.{to-length, from-to}
 use Rattle.checksum.specs.Checksum.{checksum}
 use Rattle.checksum.proofs.Laws.{checksum-below}
 use Rattle.file.specs.File.{frameCount, fileFrame}
-use Rattle.link.specs.Link.{idCarried, errorCarried, linkCarried, linkRead, linkWrite, mostBytes}
+use Rattle.link.specs.Link.{idCarried, linkCarried, linkRead, linkWrite, mostBytes}
 use Rattle.link.specs.declared.Link.{Link}
-use Rattle.link.proofs.RoundTrip.{Arrives, id-arrives}
-use Rattle.device.specs.Commands.{commandFault, commandDone, takeDone, frameDone}
+use Rattle.link.proofs.RoundTrip.{id-arrives}
+use Rattle.device.specs.Commands.{commandDone, takeDone, frameDone}
 use Rattle.device.specs.Device.{isFinished, frame}
 use Rattle.device.specs.Receive.{answers, answerTo, infoBytes, answered, commandReply, telemetryReply, kindReply, messageReply, receive}
 use Rattle.device.specs.declared.Device.{Device}
-use Rattle.device.specs.declared.Fault.the-variants.{None, Nack}
 use Rattle.device.specs.declared.Phase.the-variants.{Open, Finished}
 use Rattle.upload.specs.Round.{fits, takenError, infoNumber, infoSize, infoChecksum, compared, confirmed, informed, ackMeaning, nackMeaning, infoMeaning, kindMeaning, meaning}
 use Rattle.upload.specs.Sender.{requestKind, requestId}

@@ -148,33 +148,36 @@ module _ (u : Upload) where
   AtPlace (arrived d) w stage b f = Quiet d stage b × Asked w stage f × Answered w d stage b
   AtPlace (repeated d) w stage b f = Quiet d stage b × Asked w stage f × Answered w d stage b
 
-  -- The whole invariant of a list so far, with its rounds and marks: the sender runs,
-  pub record Running· (p : Place) (w : World) (past : List Bool) (marks : ℕ → Mark) : Type 0 where
+  -- A row of the table: the frame and the stage that the sender is at, and the unit.
+  pub record Row (d : Device) (store : List ℕ) (marks : ℕ → Mark) : Type 0 where
     pub stage : Stage
     pub frame : ℕ
     pub stored : ℕ
     pub buffer : Buffer
-    pub since : ℕ
-    pub unit : UnitAt stored buffer (w .device) (w .store) marks
-    pub sends : w .sender ≡ sender frame stage since (length past) Running
+    pub unit : UnitAt stored buffer d store marks
     pub stands : Stands stage buffer frame stored
-    pub place : AtPlace p w stage buffer frame
+
+  -- What the rounds so far have come to, at a stage of a frame.
+  pub record Course (frame : ℕ) (stage : Stage) (since : ℕ) (past : List Bool) : Type 0 where
     pub below : frame < frames
     pub few : since < 50
     pub lull : Lull past since
     pub rounds : length past ≤ 50 * (4 * frame + steps stage) + since
     pub good : goodRounds past ≤ 4 * frame + steps stage
 
+  -- The whole invariant of a list so far, with its rounds and marks: the sender runs,
+  pub record Running· (p : Place) (w : World) (past : List Bool) (marks : ℕ → Mark) : Type 0 where
+    pub row : Row (w .device) (w .store) marks
+    pub since : ℕ
+    pub sends : w .sender ≡ sender (row .frame) (row .stage) since (length past) Running
+    pub place : AtPlace p w (row .stage) (row .buffer) (row .frame)
+    pub course : Course (row .frame) (row .stage) since past
+
   -- has given up,
   pub record GivenUp· (w : World) (past : List Bool) (marks : ℕ → Mark) : Type 0 where
-    pub stage : Stage
-    pub frame : ℕ
-    pub stored : ℕ
-    pub buffer : Buffer
+    pub row : Row (w .device) (w .store) marks
     pub since : ℕ
-    pub unit : UnitAt stored buffer (w .device) (w .store) marks
-    pub sends : w .sender ≡ sender frame stage since (length past) GivenUp
-    pub stands : Stands stage buffer frame stored
+    pub sends : w .sender ≡ sender (row .frame) (row .stage) since (length past) GivenUp
     pub lull : Lull past 50
 
   -- or has finished.

@@ -1,26 +1,25 @@
 -- What a work step does to the table: a pending frame is stored, anything else stays.
 use Prim.Native.Nat.{ℕ, _+_, _*_, _%_, _≤_, _<_, min}
-use mathlib.Core.Bool.{Bool, true, false, cond}
-use mathlib.Core.List.{List, [], _++_}
-use mathlib.Core.Path.{_≡_, refl, sym, _∙_, ap}
+use mathlib.Core.Bool.{Bool, true, false}
+use mathlib.Core.List.{List}
+use mathlib.Core.Path.{_≡_, refl, _∙_, ap}
 use native.Mathlib.Nat.{add-zero}
 use native.Mathlib.Omega.{arith}
-use borrow.Author.Tests.{eq-eqb, ne-eqb, le-leb, lt-ltb, le-ltb, ltb-true, ltb-false, eqb-true, eqb-false}
+use borrow.Author.Tests.{ne-eqb, le-leb, lt-ltb, le-ltb, ltb-true, ltb-false, eqb-true, eqb-false}
 use lib.Dec.{ltb, eqb}
-use lib.ListN.{length, take, drop, take-append-drop}
-use Rattle.message.specs.Answer.{given, passed, require, after}
-use Rattle.file.specs.File.{frameCount, fileFrame}
+use lib.ListN.{length, take, take-append-drop}
+use Rattle.message.specs.Answer.{given, require, after}
+use Rattle.file.specs.File.{fileFrame}
 use Rattle.device.specs.Device.{frame}
 use Rattle.device.specs.Work.{frameStored, hasRoom, work, storeAfter}
 use Rattle.device.specs.declared.Device.{Device}
-use Rattle.device.specs.declared.Phase.the-variants as Phase·of
 use Rattle.upload.specs.declared.Stage.{Stage}
 use Rattle.upload.specs.declared.Stage.the-variants.{Frame, Back, Compare, Take, Confirm}
-use Rattle.upload.specs.Stored.{Mark, waiting, taken, stored, markWorked}
+use Rattle.upload.specs.Stored.{Mark, stored, markWorked}
 use Rattle.upload.specs.World.{deviceOr, isRefusal}
-use Rattle.upload.proofs.Files.{stored-next, size-reached, remains, beginning-length, store-next}
+use Rattle.upload.proofs.Files.{stored-next, size-reached, beginning-length, store-next}
 use Rattle.upload.proofs.Situations.{unitAt}
-use Rattle.upload.proofs.Table.{Upload, Buffer, free, loaded, pending, isPending, Stands, Quiet, markOf, frames, Holding, UnitAt}
+use Rattle.upload.proofs.Table.{Upload, Buffer, free, loaded, pending, isPending, Stands, Quiet, markOf, frames, UnitAt}
 
 -- How many frames are stored after a work step, and the buffer then.
 abbrev pub workedCount : Buffer → ℕ → ℕ
@@ -116,7 +115,7 @@ module _ (u : Upload) where
         buffered = 0;
         device = refl;
         holding = omega (arith, h .holding .0);
-        stores = rw (h .stores) (store-next (u .file) (u .start) i (u .room));
+        stores = rw (h .stores) (store-next (u .file) (u .start) i);
         marked = λ j. ap markWorked (h .marked j) ∙ worked-mark i pending j;
       })
 

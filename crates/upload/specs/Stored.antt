@@ -10,7 +10,7 @@ use Rattle.message.specs.Kinds.{typeNumber}
 use Rattle.message.specs.declared.Message.{Message}
 use Rattle.little_endian.specs.LittleEndian.{fromBytes}
 use Rattle.link.specs.Link.{linkRead}
-use Rattle.upload.specs.World.{World, Lent, Call, works, asks, arrives, hears, does, isRefused}
+use Rattle.upload.specs.World.{World, Call, works, asks, arrives, hears, does, isRefused}
 
 -- What the calls so far mean for a frame: nothing, its take frame has arrived, or it has and had a work step after it.
 pub data Mark : Type 0 where
