@@ -1,19 +1,27 @@
--- Document 01, "Marked cases": P1 to P10 as a list, and the one statement that all of them hold. P11 and P12 are about the unit
--- and the sender and come with them.
+-- Document 01, "Marked cases": P1 to P12 as a list, and the one statement that all of them hold.
 use Prim.Native.Nat.{ℕ, _+_, _-_, _*_}
-use mathlib.Core.List.{List, [], _∷_}
+use mathlib.Core.Bool.{true}
+use mathlib.Core.List.{List, [], _∷_, _++_}
 use mathlib.Core.Path.{_≡_}
 use lib.ListN.{length, getD, take, replicate}
-use Rattle.little_endian.specs.LittleEndian.{fromBytes}
+use Rattle.little_endian.specs.LittleEndian.{fromBytes, toBytes}
 use Rattle.message.specs.Answer.{refused, given, written}
 use Rattle.message.specs.declared.ErrorByte.the-variants.{Told}
 use Rattle.message.specs.declared.Kind.{Kind}
-use Rattle.message.specs.declared.Kind.the-variants.{Telecommand, TelecommandAck, TelemetryRequest}
+use Rattle.message.specs.declared.Kind.the-variants.{Telecommand, TelecommandAck, TelecommandNack, TelemetryRequest}
 use Rattle.message.specs.declared.Message.{Message}
 use Rattle.can.specs.Can.{canBytes}
 use Rattle.csp.specs.Csp.{cspRead}
 use Rattle.serial.specs.Frames.{frameRead, frameWrite}
 use Rattle.serial.specs.declared.SerialLink.the-variants.{Uart, Rs485}
+use Rattle.link.specs.Link.{linkRead, linkWrite, linkCarried}
+use Rattle.link.specs.declared.Link.{Link}
+use Rattle.device.specs.Device.{newDevice}
+use Rattle.device.specs.Receive.{receive}
+use Rattle.upload.specs.Schedule.{Fate, deliver, loseAnswer, Round, output, scheduled}
+use Rattle.upload.specs.Sender.{newSender, framesKnown}
+use Rattle.upload.specs.World.{World, shared, works, asks, arrives, does, run, replied, bytesOr}
+use Rattle.upload.specs.declared.State.the-variants.{Finished}
 
 -- A message of a kind, an ID and addresses whose other fields are 0.
 abbrev pub plain : Kind → ℕ → ℕ → ℕ → Message
@@ -25,6 +33,56 @@ longCommand n = canBytes (plain Telecommand 12 16 17) (replicate n 0)
 
 abbrev pub lastDlc : List ℕ → ℕ
 lastDlc b = getD b (length b - 13 + 4) 0
+
+-- P11 and P12: a file of 300 bytes, and a unit with own address 31 that its setup opened, with 303 bytes to store in.
+abbrev pub file : List ℕ
+file = replicate 256 0x1F ++ replicate 44 7
+
+abbrev pub emptyStore : List ℕ
+emptyStore = replicate 303 0xA5
+
+-- The store with the whole file in it.
+abbrev pub stored : List ℕ
+stored = file ++ replicate 3 0xA5
+
+-- Unit and sender after the setup, which arrives as bytes on the link.
+unfoldable pub opened : Link → World
+opened l =
+    let unit = newDevice l 31 in
+    let setup = bytesOr [] (linkWrite l (plain Telecommand 20 255 31) (toBytes 4 300)) in
+    record {
+      device = replied unit (receive unit 303 setup);
+      store = emptyStore;
+      sender = newSender l 255 31 300;
+      request = [];
+      answer = [];
+    }
+
+-- A round with the work step done.
+abbrev pub worked : Fate → Round
+worked f = record { worked = true; fate = f }
+
+-- The world after rounds.
+unfoldable pub afterRounds : Link → List Round → World
+afterRounds l rs = run file (opened l) (scheduled file (opened l) rs)
+
+-- P11: "300 bytes, nothing lost, work always done: 2 frames, 8 rounds, finished."
+abbrev pub NothingLost : Link → Type 0
+NothingLost l =
+    let w = afterRounds l (replicate 8 (worked deliver)) in
+    (framesKnown (w .sender) ≡ 2) × (w .sender .rounds ≡ 8) × (w .sender .state ≡ Finished) × (w .store ≡ stored)
+
+-- P12: "same file, last take-frame answer lost": so far the unit has taken the frame; then the work step, and the sender asks again.
+unfoldable pub askedAgain : Link → World
+askedAgain l = run file (afterRounds l (replicate 6 (worked deliver) ++ (worked loseAnswer ∷ []))) (works shared ∷ asks shared output ∷ [])
+
+-- "The repeat after the work step gets nack 3, store unchanged." On CAN the nack does not tell its number.
+abbrev pub AnswerLost : Link → Type 0
+AnswerLost l =
+    let w = askedAgain l in
+    let v = does file w (arrives (w .request) shared output) in
+    let nack : Message = record { kind = TelecommandNack; id = 21; source = 31; destination = 255; error = Told 3; index = 0 } in
+    (linkRead l (v .answer) ≡ given (linkCarried l nack) []) × (w .store ≡ stored) × (v .store ≡ stored)
 
 abbrev pub cases : List (Type 0)
 cases =
@@ -52,6 +110,9 @@ cases =
     -- P10: CSP `02 0C 00`: tcack 12; `02 0C 01`: 7.
     ∷ (cspRead (0x02 ∷ 0x0C ∷ 0x00 ∷ []) ≡ given (plain TelecommandAck 12 0 0) [])
     ∷ (cspRead (0x02 ∷ 0x0C ∷ 0x01 ∷ []) ≡ refused 7)
+    -- P11 and P12, on every link.
+    ∷ ((l : Link) → NothingLost l)
+    ∷ ((l : Link) → AnswerLost l)
     ∷ []
 
 -- The statement: every case of a list holds.

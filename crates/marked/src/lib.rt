@@ -1,2 +1,2 @@
-// The marked cases of document 01, so far P1 to P10, proved about the definitions. There is no code here: `specs/Cases.antt` has
-// the list, and `proofs/Marked.antt` the proof of the one statement about it.
+// The marked cases of document 01, P1 to P12, proved about the definitions. There is no code here: `specs/Cases.antt` has the list,
+// and `proofs/Marked.antt` the proof of the one statement about it.
