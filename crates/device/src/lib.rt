@@ -2,9 +2,19 @@
 //
 // The rules are definitions of `specs/`: `Device` (the state, and what is answered), `Commands` (the faults of each command and
 // what it does) and `Work` (the work step).
+mod command;
+mod receiver;
+mod worker;
+
+pub use receiver::receive;
+pub use worker::work;
 ghost use mathlib.Core.Path.{_≡_};
+ghost use lib.ListN.{length};
+ghost use Rattle.device.specs.Answers.{makeAnswer};
+ghost use Rattle.device.specs.Device.{isIdle, isOpen, isFinished, frame, newDevice, make, makeTold};
 use link::Link;
 use message::Refusal;
+use message::Verdict;
 
 pub enum Phase {
     Idle,
@@ -36,13 +46,13 @@ pub enum Fault {
     Nack(u8, u8),
 }
 
-// The answer of making a unit.
+// What is told of making a unit.
 pub enum MakeAnswer {
     Device(Device),
     Refused(Refusal),
 }
 
-// The answer of receiving bytes: the unit afterwards, and the length of the answer that lies at the start of the lent output. A refusal
+// What is told of receiving bytes: the unit afterwards, and the length of the answer that lies at the start of the lent output. A refusal
 // leaves unit and output as they came.
 pub enum ReceiveAnswer {
     Answer(Device, usize),
@@ -50,8 +60,102 @@ pub enum ReceiveAnswer {
     Refused(Refusal),
 }
 
-// The answer of the work step: the unit afterwards. A refusal leaves unit and store as they came.
+// What is told of the work step: the unit afterwards. A refusal leaves unit and store as they came.
 pub enum WorkAnswer {
     Device(Device),
     Refused(Refusal),
+}
+
+// The functions give the unit beside the case, since no enum of covered code holds an array; `specs/Answers.antt` puts the two together.
+
+// What making a unit and the work step give.
+pub struct Stepped {
+    pub device: Device,
+    pub verdict: Verdict,
+}
+
+// What receiving bytes comes to.
+pub enum Outcome {
+    Answer(usize),
+    Silent,
+    Refused(Refusal),
+}
+
+// What receiving bytes gives.
+pub struct Received {
+    pub device: Device,
+    pub outcome: Outcome,
+}
+
+impl Phase {
+    pub(crate) fn is_idle(self) -> bool
+        ensures { λ r. ⌜ r ≡ isIdle self ⌝ }
+    {
+        match self {
+            Phase::Idle => true,
+            Phase::Open => false,
+            Phase::Finished => false,
+        }
+    }
+
+    pub(crate) fn is_open(self) -> bool
+        ensures { λ r. ⌜ r ≡ isOpen self ⌝ }
+    {
+        match self {
+            Phase::Idle => false,
+            Phase::Open => true,
+            Phase::Finished => false,
+        }
+    }
+
+    pub(crate) fn is_finished(self) -> bool
+        ensures { λ r. ⌜ r ≡ isFinished self ⌝ }
+    {
+        match self {
+            Phase::Idle => false,
+            Phase::Open => false,
+            Phase::Finished => true,
+        }
+    }
+}
+
+impl Device {
+    // How many bytes the frame in the buffer has.
+    pub(crate) fn frame_length(self) -> usize
+        ensures { λ r. ⌜ r ≡ length (frame self) ⌝ }
+    {
+        let buffered = self.buffered as usize;
+        if 256 < buffered {
+            return 256;
+        }
+        buffered
+    }
+}
+
+// A unit at first, with its own address.
+pub fn make(link: Link, own: u8) -> Stepped
+    ensures { λ r. ⌜ makeTold (makeAnswer (r .verdict) (r .device)) ≡ make link own ⌝ }
+    ensures { λ r. ⌜ r .device ≡ newDevice link own ⌝ }
+{
+    let device = Device {
+        link,
+        own,
+        phase: Phase::Idle,
+        number: 0xFFFF,
+        buffer: [0u8; 256],
+        buffered: 0,
+        pending: false,
+        size: 0,
+        stored: 0,
+    };
+    if own == 0 {
+        return Stepped {
+            device,
+            verdict: Verdict::Refused(Refusal::IllegalValue),
+        };
+    }
+    Stepped {
+        device,
+        verdict: Verdict::Passed,
+    }
 }

@@ -1,0 +1,5 @@
+mod Buffers
+mod Payloads
+mod Faults
+mod Replies
+mod Works
