@@ -1,7 +1,7 @@
 -- What is told of a reply, and what the output and the unit are then: of silence, and of what a writer answered. And what reading into
 -- 256 bytes tells of the message.
 use Prim.Native.Nat.{ℕ, _≤_}
-use mathlib.Core.Bool.{Bool, true, false}
+use mathlib.Core.Bool.{Bool, true, false, cond}
 use mathlib.Core.List.{List, [], _++_}
 use mathlib.Core.Path.{_≡_, refl, sym, ap, _∙_}
 use native.Mathlib.Omega.{arith}
@@ -10,28 +10,63 @@ use lib.Dec.{leb}
 use lib.ListN.{length, take, drop, replicate, length-append}
 use lib.Seq.{take-at}
 use Rattle.message.specs.Answer.{Answer, refused, given, passed, number, require, after, within, counted, laid, readTold, writeTold}
+use Rattle.message.specs.declared.Kind.{Kind}
+use Rattle.message.specs.declared.Kind.the-variants as Kind·of
 use Rattle.message.specs.declared.Message.{Message}
+use Rattle.message.specs.declared.ReadAnswer.{ReadAnswer}
 use Rattle.message.specs.declared.ReadAnswer.the-variants as ReadAnswer·of
 use Rattle.message.specs.declared.Refusal.{Refusal}
 use Rattle.message.specs.declared.WriteAnswer.the-variants as WriteAnswer·of
 use Rattle.message.proofs.Answers.{long-enough}
-use Rattle.link.specs.Link.{linkRead}
+use Rattle.link.specs.Link.{linkRead, linkWrite}
 use Rattle.link.specs.declared.Link.{Link}
 use Rattle.link.proofs.RoundTrip.{read-most}
 use Rattle.device.specs.Answers.{receiveAnswer, afterReceive}
-use Rattle.device.specs.Receive.{Reply, answers, silent, answered, silence, receiveTold}
+use Rattle.device.specs.Commands.{commandDone}
+use Rattle.device.specs.Receive.{Reply, answers, silent, answered, answerTo, commandReply, isTaken, silence, kindReply, messageReply, receive, receiveTold}
 use Rattle.device.specs.declared.Device.{Device}
-use Rattle.device.specs.declared.Outcome.{Outcome}
+use Rattle.device.specs.declared.Fault.{Fault}
+use Rattle.device.specs.declared.Fault.the-variants as Fault·of
 use Rattle.device.specs.declared.Outcome.the-variants as Outcome·of
+use Rattle.device.specs.declared.Received.{Received}
 
 -- What a call owes of a reply: what it tells, the unit and the output.
-abbrev pub Gives : Device → List ℕ → Answer Reply (List ℕ) → Outcome → Device → List ℕ → Type 0
-Gives d out x o d′ out′ =
-    (receiveTold (receiveAnswer o d′) ≡ counted (within out x)) × ((d′ ≡ afterReceive d (within out x)) × (out′ ≡ laid (within out x) out))
+abbrev pub Gives : Device → List ℕ → Answer Reply (List ℕ) → Received → List ℕ → Type 0
+Gives d out x r out′ =
+    (receiveTold (receiveAnswer (r .outcome) (r .device)) ≡ counted (within out x)) × ((r .device ≡ afterReceive d (within out x)) × (out′ ≡ laid (within out x) out))
 
-pub silence-gives : (d : Device) (out : List ℕ) → Gives d out (silence d) Outcome·of.Silent d out
+-- A reply that is equal to one that was given.
+pub equal-gives : (d : Device) (out : List ℕ) (x y : Answer Reply (List ℕ)) (r : Received) (out′ : List ℕ) → x ≡ y → Gives d out y r out′ → Gives d out x r out′
+equal-gives d out x y r out′ e g = rw e g
+
+pub silence-gives : (d : Device) (out : List ℕ) (x : Answer Reply (List ℕ)) (r : Received) → (r .device ≡ d) × (r .outcome ≡ Outcome·of.Silent) → x ≡ silence d → Gives d out x r out
 unfolding receiveTold receiveAnswer afterReceive counted laid
-silence-gives d out = rw (long-enough out (silent d) [] (omega arith)) (refl, (refl, refl))
+silence-gives d out x r told e = rw (e, long-enough out (silent d) [] (omega arith), told .0, told .1) (refl, (refl, refl))
+
+pub by-kind : (k k′ : Kind) (d : Device) (store : ℕ) (m : Message) (p : List ℕ) → k ≡ k′ → kindReply k d store m p ≡ kindReply k′ d store m p
+by-kind k k′ d store m p e = rw e
+
+-- Bytes that read as a refusal, and a message that is not for the unit or is.
+pub refused-reply : (d : Device) (store : ℕ) (b : List ℕ) (n : ℕ) → linkRead (d .link) b ≡ refused n → receive d store b ≡ silence d
+unfolding receive messageReply
+refused-reply d store b n e = rw e
+
+pub message-reply : (d : Device) (store : ℕ) (b : List ℕ) (m : Message) (p : List ℕ) (t : Bool) → linkRead (d .link) b ≡ given m p → isTaken (d .link) (d .own) m ≡ t
+    → receive d store b ≡ cond t (kindReply (m .kind) d store m p) (silence d)
+unfolding receive messageReply
+message-reply d store b m p t e q = rw (e, q)
+
+-- A command by its fault.
+module _ (d : Device) (m : Message) (p : List ℕ) (f : Fault) (answer : Message) where
+  pub ack-reply : (next : Device) → f ≡ Fault·of.None → next ≡ commandDone d (m .id) p → answer ≡ answerTo d m Kind·of.TelecommandAck 0 0
+      → commandReply d m p f ≡ answered next (linkWrite (d .link) answer [])
+  unfolding commandReply
+  ack-reply next e done same = rw (e, done, same)
+
+  pub nack-reply : (error index : ℕ) → f ≡ Fault·of.Nack error index → answer ≡ answerTo d m Kind·of.TelecommandNack error index
+      → commandReply d m p f ≡ answered d (linkWrite (d .link) answer [])
+  unfolding commandReply
+  nack-reply error index e same = rw (e, same)
 
 -- The output's 8 comes before or after the unit is told with the bytes, all the same.
 within-answered : (d : Device) (out : List ℕ) (x : Answer Unit (List ℕ)) → within out (answered d x) ≡ answered d (within out x)
@@ -58,35 +93,38 @@ module _ (d next : Device) (out out′ : List ℕ) where
   refusal-told n (given u b) told left = absurd (let z : _≡_ {A = ℕ} 0 1 = cc in omega arith)
 
   module _ (x : Answer Unit (List ℕ)) (left : out′ ≡ laid (within out x) out) where
-    pub answer-gives : (n : ℕ) → writeTold (WriteAnswer·of.Length n) ≡ counted (within out x) → Gives d out (answered next x) (Outcome·of.Answer n) next out′
+    pub answer-gives : (n : ℕ) → writeTold (WriteAnswer·of.Length n) ≡ counted (within out x) → Gives d out (answered next x) (record { device = next; outcome = Outcome·of.Answer n }) out′
     unfolding receiveTold receiveAnswer writeTold
     answer-gives n told = rw (within-answered next out x) (answer-told n (within out x) told left)
 
-    pub refusal-gives : (r : Refusal) → writeTold (WriteAnswer·of.Refused r) ≡ counted (within out x) → Gives d out (answered next x) (Outcome·of.Refused r) d out′
+    pub refusal-gives : (r : Refusal) → writeTold (WriteAnswer·of.Refused r) ≡ counted (within out x) → Gives d out (answered next x) (record { device = d; outcome = Outcome·of.Refused r }) out′
     unfolding receiveTold receiveAnswer writeTold
     refusal-gives r told = rw (within-answered next out x) (refusal-told (number r) (within out x) told left)
 
--- Reading into an output that every payload fits.
-module _ {A : Type 0} (out : List ℕ) where
-  pub within-room : (x : Answer A (List ℕ)) → ((a : A) (b : List ℕ) → x ≡ given a b → length b ≤ length out) → within out x ≡ x
+-- What was read into 256 bytes tells what the bytes read as: every payload fits.
+module _ (l : Link) (b payload : List ℕ) (w : ReadAnswer)
+    (told : readTold w ≡ counted (within (replicate 256 0) (linkRead l b))) (left : payload ≡ laid (within (replicate 256 0) (linkRead l b)) (replicate 256 0)) where
+  fits : (x : Answer Message (List ℕ)) → linkRead l b ≡ x → within (replicate 256 0) (linkRead l b) ≡ x
   unfolding within
-  within-room (refused n) room = refl
-  within-room (given a b) room = long-enough out a b (room a b refl)
+  fits (refused n) e = rw e
+  fits (given m p) e = rw e (long-enough (replicate 256 0) m p (read-most l b m p e))
 
--- What a reader answered tells what the bytes read as.
-pub unreadable : (x : Answer Message (List ℕ)) (r : Refusal) → readTold (ReadAnswer·of.Refused r) ≡ counted x → x ≡ refused (number r)
-unfolding readTold counted
-unreadable (refused k) r told = cc
-unreadable (given m p) r told = absurd (let z : _≡_ {A = ℕ} 0 1 = cc in omega arith)
+  pub unreadable : (r : Refusal) → w ≡ ReadAnswer·of.Refused r → linkRead l b ≡ refused (number r)
+  unfolding readTold counted
+  unreadable r e = by (linkRead l b) refl
+    where
+      by : (x : Answer Message (List ℕ)) → linkRead l b ≡ x → linkRead l b ≡ refused (number r)
+      by (refused k) q = q ∙ cc (rw (e, fits (refused k) q) at told)
+      by (given m p) q = absurd (let z : _≡_ {A = ℕ} 0 1 = cc (rw (e, fits (given m p) q) at told) in omega arith)
 
-pub message-read : (zeros payload : List ℕ) (x : Answer Message (List ℕ)) (m : Message) (n : ℕ) → readTold (ReadAnswer·of.Message m n) ≡ counted x → payload ≡ laid x zeros
-    → (x ≡ given m (take n payload)) × (n ≤ length payload)
-unfolding readTold counted laid
-message-read zeros payload (refused k) m n told left = absurd (let z : _≡_ {A = ℕ} 0 1 = cc in omega arith)
-message-read zeros payload (given m′ p) m n told left =
-    let same : m′ ≡ m = cc in
-    let size : length p ≡ n = cc in
-    (rw (same, left, take-at p (drop (length p) zeros) n size), rw (left, length-append) (omega arith))
-
-pub read-room : (l : Link) (b : List ℕ) → within (replicate 256 0) (linkRead l b) ≡ linkRead l b
-read-room l b = within-room (replicate 256 0) (linkRead l b) (λ m p e. read-most l b m p e)
+  pub readable : (m : Message) (n : ℕ) → w ≡ ReadAnswer·of.Message m n → (linkRead l b ≡ given m (take n payload)) × (n ≤ length payload)
+  unfolding readTold counted laid
+  readable m n e = by (linkRead l b) refl
+    where
+      by : (x : Answer Message (List ℕ)) → linkRead l b ≡ x → (linkRead l b ≡ given m (take n payload)) × (n ≤ length payload)
+      by (refused k) q = absurd (let z : _≡_ {A = ℕ} 0 1 = cc (rw (e, fits (refused k) q) at told) in omega arith)
+      by (given m′ p) q =
+          let same : given m n ≡ given m′ (length p) = rw (e, fits (given m′ p) q) at told in
+          let size : length p ≡ n = cc in
+          let laid-is = rw (fits (given m′ p) q) at left in
+          (q ∙ cc (rw (take-at p (drop (length p) (replicate 256 0)) n size) at (ap (take n) laid-is)), rw (laid-is, length-append) (omega arith))

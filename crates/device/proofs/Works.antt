@@ -1,11 +1,12 @@
 -- What is told of a work step, and what the unit and the store are then, in each of its cases.
-use Prim.Native.Nat.{ℕ, _+_, _≤_, _<_}
+use Prim.Native.Nat.{ℕ, _+_, _≤_}
 use mathlib.Core.Bool.{Bool, true, false, cond}
 use mathlib.Core.List.{List, [], _++_}
 use mathlib.Core.Path.{_≡_, refl, sym, ap, _∙_}
 use native.Mathlib.Nat.{add-zero}
 use native.Mathlib.Omega.{arith}
-use borrow.Author.Tests.{le-leb, lt-leb}
+use borrow.Author.Tests.{leb-true}
+use lib.Dec.{leb}
 use lib.ListN.{length, take, drop, length-drop, take-append-drop}
 use lib.Seq.{drop-drop}
 use Rattle.message.specs.Answer.{refused, given, passed, require, after, within, laid, written}
@@ -13,6 +14,7 @@ use Rattle.message.specs.declared.Refusal.the-variants.{OutputTooShort}
 use Rattle.message.specs.declared.Verdict.{Verdict}
 use Rattle.message.specs.declared.Verdict.the-variants.{Passed, Refused}
 use Rattle.message.proofs.Answers.{long-enough}
+use Rattle.message.proofs.Checks.{both-true}
 use Rattle.device.specs.Answers.{workAnswer, afterWork}
 use Rattle.device.specs.Device.{frame}
 use Rattle.device.specs.Work.{frameStored, hasRoom, work, storeAfter, workTold, worked}
@@ -41,23 +43,20 @@ module _ (d : Device) (s : List ℕ) where
   unfolding workTold workAnswer worked afterWork storeAfter
   idle-gives h = rw (tested d (length s) false h, add-zero) (refl, (refl, sym (take-append-drop (d .stored) s)))
 
-  short-gives : d .pending ≡ true → hasRoom d (length s) ≡ false → Gives d s (Refused OutputTooShort) d s
+  pub short-gives : d .pending ≡ true → hasRoom d (length s) ≡ false → Gives d s (Refused OutputTooShort) d s
   unfolding workTold workAnswer worked afterWork storeAfter
   short-gives h k = rw (short d (length s) h k) (refl, (refl, refl))
 
-  pub short-store-gives : d .pending ≡ true → length s < d .size → Gives d s (Refused OutputTooShort) d s
+  pub room : hasRoom d (length s) ≡ true → (d .size ≤ length s) × (d .stored + length (frame d) ≤ d .size)
   unfolding hasRoom
-  short-store-gives h k = short-gives h (rw (lt-leb _ _ k))
-
-  pub past-size-gives : d .pending ≡ true → d .size ≤ length s → d .size < d .stored + length (frame d) → Gives d s (Refused OutputTooShort) d s
-  unfolding hasRoom
-  past-size-gives h j k = short-gives h (rw (le-leb _ _ j, lt-leb _ _ k))
+  room h =
+      let b = both-true (leb (d .size) (length s)) (leb (d .stored + length (frame d)) (d .size)) h in
+      (leb-true _ _ (b .0), leb-true _ _ (b .1))
 
   -- A frame laid behind what is stored.
-  pub stored-gives : (part : List ℕ) → d .pending ≡ true → d .size ≤ length s → d .stored + length (frame d) ≤ d .size
+  pub stored-gives : (part : List ℕ) → d .pending ≡ true → hasRoom d (length s) ≡ true
       → part ≡ laid (within (drop (d .stored) s) (written (frame d))) (drop (d .stored) s) → Gives d s Passed (frameStored d) (take (d .stored) s ++ part)
-  unfolding hasRoom workTold workAnswer worked afterWork storeAfter laid
-  stored-gives part h j k left =
-      let fits : hasRoom d (length s) ≡ true = rw (le-leb _ _ j, le-leb _ _ k) in
-      let room : length (frame d) ≤ length (drop (d .stored) s) = rw length-drop (omega arith) in
-      rw (stores d (length s) h fits, left, long-enough (drop (d .stored) s) (tt {0}) (frame d) room, drop-drop) (refl, (refl, refl))
+  unfolding workTold workAnswer worked afterWork storeAfter laid
+  stored-gives part h k left =
+      let fits : length (frame d) ≤ length (drop (d .stored) s) = rw length-drop (omega (arith, room k)) in
+      rw (stores d (length s) h k, left, long-enough (drop (d .stored) s) (tt {0}) (frame d) fits, drop-drop) (refl, (refl, refl))

@@ -6,7 +6,7 @@ ghost use lib.Dec.{eqb};
 ghost use lib.ListN.{length};
 ghost use Rattle.device.specs.Answers.{workAnswer, afterWork};
 ghost use Rattle.device.specs.Device.{frame};
-ghost use Rattle.device.specs.Work.{frameStored, work, worked, workTold, storeAfter};
+ghost use Rattle.device.specs.Work.{frameStored, hasRoom, work, worked, workTold, storeAfter};
 use crate::Device;
 use crate::Phase;
 use crate::Stepped;
@@ -25,27 +25,31 @@ pub fn work(device: Device, store: &mut [u8]) -> Stepped
             verdict: Verdict::Passed,
         };
     }
-    let size = device.size as usize;
+    if !has_room(device, store.len()) {
+        return Stepped {
+            device,
+            verdict: Verdict::Refused(Refusal::OutputTooShort),
+        };
+    }
     let at = device.stored as usize;
     let length = device.frame_length();
-    if store.len() < size {
-        return Stepped {
-            device,
-            verdict: Verdict::Refused(Refusal::OutputTooShort),
-        };
-    }
-    if size < at + length {
-        return Stepped {
-            device,
-            verdict: Verdict::Refused(Refusal::OutputTooShort),
-        };
-    }
     let buffer = device.buffer;
     message::lay(&buffer[..length], &mut store[at..]);
     Stepped {
         device: frame_stored(device),
         verdict: Verdict::Passed,
     }
+}
+
+// The store holds the whole file, and the frame does not end past it.
+fn has_room(device: Device, store: usize) -> bool
+    ensures { λ r. ⌜ r ≡ hasRoom device store ⌝ }
+{
+    let size = device.size as usize;
+    if store < size {
+        return false;
+    }
+    device.stored as usize + device.frame_length() <= size
 }
 
 // The unit once its pending frame is stored.

@@ -1,8 +1,7 @@
 -- Carried by the fault, or that there is none: then the payload is of the command's length.
 use mathlib.Core.Path.{sym, _∙_}
-use denote.Ref.{now}
-use Rattle.device.specs.Receive.{commandReply}
 use Rattle.device.proofs.Faults.{payload-lengths}
+use Rattle.device.proofs.Replies.{equal-gives, ack-reply, nack-reply}
 use borrow.Author.Needs.{needs}
 use Rattle.device.proofs.receiver.command_reply.Statement.{statement}
 use Rattle.device.proofs.receiver.command_reply.Tie as tie
@@ -41,15 +40,15 @@ same-length : tie.Need-same-length
 same-length c = search needs
 
 returns : tie.Need-returns
-unfolding commandReply
-returns c = rw (← c .before .before .before .before .before .before .before .before .before .command-fault .ensures, c .before .before .before .before .before .before .before .enum-told .given .1, ← c .before .before .before .before .before .before .command-done .ensures, ← c .before .before .before .before .before .answer-to .ensures) (c .before .before .send .ensures)
+returns c =
+    equal-gives _ _ _ _ _ _ (ack-reply _ _ _ _ _ _ (sym (c .before .before .before .before .before .before .before .before .before .command-fault .ensures) ∙ c .before .before .before .before .before .before .before .enum-told .given .1) (c .before .before .before .before .before .before .command-done .ensures) (c .before .before .before .before .before .answer-to .ensures)) (c .before .before .send .ensures)
 
 same-length-2 : tie.Need-same-length-2
 same-length-2 c = search needs
 
 returns-2 : tie.Need-returns-2
-unfolding commandReply
-returns-2 c = rw (← c .before .before .before .before .before .before .before .before .before .command-fault .ensures, c .before .before .before .before .before .before .before .error .given .1, ← c .before .before .before .before .before .answer-to2 .ensures) (c .before .before .send2 .ensures)
+returns-2 c =
+    equal-gives _ _ _ _ _ _ (nack-reply _ _ _ _ _ _ _ (sym (c .before .before .before .before .before .before .before .before .before .command-fault .ensures) ∙ c .before .before .before .before .before .before .before .error .given .1) (c .before .before .before .before .before .answer-to2 .ensures)) (c .before .before .send2 .ensures)
 
 pub command-reply-spec : {M : Type 1} → statement M
 command-reply-spec =

@@ -1,11 +1,9 @@
 -- Carried by what the reader answers: a payload always fits the 256 bytes, so a refusal is one of the bytes themselves.
-use mathlib.Core.Path.{sym}
+use mathlib.Core.Bool.{true, false}
+use mathlib.Core.Path.{sym, _∙_}
 use borrow.Author.Tests.{not-true, not-false}
-use denote.Ref.{now}
 use lib.Seq.{length-take-le}
-use Rattle.link.specs.Link.{linkRead}
-use Rattle.device.specs.Receive.{messageReply, receive}
-use Rattle.device.proofs.Replies.{silence-gives, read-room, unreadable, message-read}
+use Rattle.device.proofs.Replies.{equal-gives, silence-gives, refused-reply, message-reply, unreadable, readable}
 use borrow.Author.Needs.{needs}
 use Rattle.device.proofs.receiver.receive.Statement.{statement}
 use Rattle.device.proofs.receiver.receive.Tie as tie
@@ -26,11 +24,9 @@ silence-requires : tie.Need-silence-requires
 silence-requires c κs = search needs
 
 returns : tie.Need-returns
-unfolding receive messageReply
 returns c =
-    let a = c .before .before .before .before .before .before .before .before .before .args in
-    let e = rw (c .before .enum-told .given .1, read-room (a .device .link) (now (a .bytes))) at (c .before .before .before .before .read .ensures) in
-    rw (unreadable (linkRead (a .device .link) (now (a .bytes))) _ (e .0), c .silence .ensures .1, c .silence .ensures .0) (silence-gives _ _)
+    let e = c .before .before .before .before .read .ensures in
+    silence-gives _ _ _ _ (c .silence .ensures) (refused-reply _ _ _ _ (unreadable _ _ _ _ (e .0) (e .1) _ (c .before .enum-told .given .1)))
 
 is-taken-requires : tie.Need-is-taken-requires
 is-taken-requires c κs = search needs
@@ -39,18 +35,15 @@ silence-requires-2 : tie.Need-silence-requires-2
 silence-requires-2 c κs = search needs
 
 returns-2 : tie.Need-returns-2
-unfolding receive messageReply
 returns-2 c =
-    let a = c .before .before .before .before .before .before .before .before .before .before .before .before .args in
-    let e = rw (c .before .before .before .before .message .given .1, read-room (a .device .link) (now (a .bytes))) at (c .before .before .before .before .before .before .before .read .ensures) in
-    let m = message-read _ _ (linkRead (a .device .link) (now (a .bytes))) _ _ (e .0) (e .1) in
-    rw (m .0, ← c .before .before .is-taken .ensures, not-true (c .before .before .is-taken .result) (c .before .if1 .taken), c .silence2 .ensures .1, c .silence2 .ensures .0) (silence-gives _ _)
+    let e = c .before .before .before .before .before .before .before .read .ensures in
+    let m = readable _ _ _ _ (e .0) (e .1) _ _ (c .before .before .before .before .message .given .1) in
+    silence-gives _ _ _ _ (c .silence2 .ensures) (message-reply _ _ _ _ _ false (m .0) (sym (c .before .before .is-taken .ensures) ∙ not-true _ (c .before .if1 .taken)))
 
 array-share-prefix-payload : tie.Need-array-share-prefix-payload
 array-share-prefix-payload c =
-    let a = c .before .before .before .before .before .before .before .before .before .before .before .args in
-    let e = rw (c .before .before .before .message .given .1, read-room (a .device .link) (now (a .bytes))) at (c .before .before .before .before .before .before .read .ensures) in
-    message-read _ _ (linkRead (a .device .link) (now (a .bytes))) _ _ (e .0) (e .1) .1
+    let e = c .before .before .before .before .before .before .read .ensures in
+    readable _ _ _ _ (e .0) (e .1) _ _ (c .before .before .before .message .given .1) .1
 
 slice-aggregate-reply : tie.Need-slice-aggregate-reply
 slice-aggregate-reply c = sym (length-take-le _ _ (array-share-prefix-payload (c .before)))
@@ -62,12 +55,10 @@ same-length : tie.Need-same-length
 same-length c = search needs
 
 returns-3 : tie.Need-returns-3
-unfolding receive messageReply
 returns-3 c =
-    let a = c .before .before .before .before .before .before .before .before .before .before .before .before .before .before .before .before .args in
-    let e = rw (c .before .before .before .before .before .before .before .before .message .given .1, read-room (a .device .link) (now (a .bytes))) at (c .before .before .before .before .before .before .before .before .before .before .before .read .ensures) in
-    let m = message-read _ _ (linkRead (a .device .link) (now (a .bytes))) _ _ (e .0) (e .1) in
-    rw (m .0, ← c .before .before .before .before .before .before .is-taken .ensures, not-false (c .before .before .before .before .before .before .is-taken .result) (c .before .before .before .before .before .if1 .left)) (c .before .before .reply .ensures)
+    let e = c .before .before .before .before .before .before .before .before .before .before .before .read .ensures in
+    let m = readable _ _ _ _ (e .0) (e .1) _ _ (c .before .before .before .before .before .before .before .before .message .given .1) in
+    equal-gives _ _ _ _ _ _ (message-reply _ _ _ _ _ true (m .0) (sym (c .before .before .before .before .before .before .is-taken .ensures) ∙ not-false _ (c .before .before .before .before .before .if1 .left))) (c .before .before .reply .ensures)
 
 pub receive-spec : {M : Type 1} → statement M
 receive-spec =

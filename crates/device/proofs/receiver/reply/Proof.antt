@@ -1,9 +1,6 @@
 -- Carried by the kind.
-use mathlib.Core.Path.{ap}
-use denote.Ref.{now}
-use Rattle.message.specs.declared.Kind.{Kind}
 use Rattle.device.specs.Receive.{kindReply}
-use Rattle.device.proofs.Replies.{silence-gives}
+use Rattle.device.proofs.Replies.{equal-gives, silence-gives, by-kind}
 use borrow.Author.Needs.{needs}
 use Rattle.device.proofs.receiver.reply.Statement.{statement}
 use Rattle.device.proofs.receiver.reply.Tie as tie
@@ -55,38 +52,34 @@ same-length c = search needs
 
 returns : tie.Need-returns
 unfolding kindReply
-returns c =
-    let a = c .before .before .before .before .before .before .before .before .args in
-    rw (ap (λ (k : Kind). kindReply k (a .device) (a .store) (a .message) (now (a .payload))) (c .before .before .before .before .enum-told .given .1)) (c .before .before .command-reply .ensures)
+returns c = equal-gives _ _ _ _ _ _ (by-kind _ _ _ _ _ _ (c .before .before .before .before .enum-told .given .1)) (c .before .before .command-reply .ensures)
 
 returns-2 : tie.Need-returns-2
 unfolding kindReply
-returns-2 c = rw (c .before .enum-told2 .given .1, c .silence .ensures .1, c .silence .ensures .0) (silence-gives _ _)
+returns-2 c = silence-gives _ _ _ _ (c .silence .ensures) (by-kind _ _ _ _ _ _ (c .before .enum-told2 .given .1))
 
 returns-3 : tie.Need-returns-3
 unfolding kindReply
-returns-3 c = rw (c .before .enum-told3 .given .1, c .silence2 .ensures .1, c .silence2 .ensures .0) (silence-gives _ _)
+returns-3 c = silence-gives _ _ _ _ (c .silence2 .ensures) (by-kind _ _ _ _ _ _ (c .before .enum-told3 .given .1))
 
 same-length-2 : tie.Need-same-length-2
 same-length-2 c = search needs
 
 returns-4 : tie.Need-returns-4
 unfolding kindReply
-returns-4 c =
-    let a = c .before .before .before .before .before .before .before .before .args in
-    rw (ap (λ (k : Kind). kindReply k (a .device) (a .store) (a .message) (now (a .payload))) (c .before .before .before .before .enum-told4 .given .1)) (c .before .before .telemetry-reply .ensures)
+returns-4 c = equal-gives _ _ _ _ _ _ (by-kind _ _ _ _ _ _ (c .before .before .before .before .enum-told4 .given .1)) (c .before .before .telemetry-reply .ensures)
 
 returns-5 : tie.Need-returns-5
 unfolding kindReply
-returns-5 c = rw (c .before .enum-told5 .given .1, c .silence3 .ensures .1, c .silence3 .ensures .0) (silence-gives _ _)
+returns-5 c = silence-gives _ _ _ _ (c .silence3 .ensures) (by-kind _ _ _ _ _ _ (c .before .enum-told5 .given .1))
 
 returns-6 : tie.Need-returns-6
 unfolding kindReply
-returns-6 c = rw (c .before .enum-told6 .given .1, c .silence4 .ensures .1, c .silence4 .ensures .0) (silence-gives _ _)
+returns-6 c = silence-gives _ _ _ _ (c .silence4 .ensures) (by-kind _ _ _ _ _ _ (c .before .enum-told6 .given .1))
 
 returns-7 : tie.Need-returns-7
 unfolding kindReply
-returns-7 c = rw (c .before .enum-told7 .given .1, c .silence5 .ensures .1, c .silence5 .ensures .0) (silence-gives _ _)
+returns-7 c = silence-gives _ _ _ _ (c .silence5 .ensures) (by-kind _ _ _ _ _ _ (c .before .enum-told7 .given .1))
 
 pub reply-spec : {M : Type 1} → statement M
 reply-spec =
