@@ -1,9 +1,13 @@
 // The unit that takes an upload (document 01, "The unit"). Its state goes by value: each call takes it and gives the next one.
 //
-// The rules are definitions of `specs/`: `Device` (the state, and what is answered), `Commands` (the faults of each command and
-// what it does) and `Work` (the work step).
+// The rules are definitions of `specs/`: `Device` (the state), `Commands` (the faults of each command and what it does), `Receive` (what
+// arriving bytes come to), `Work` (the work step) and `Answers` (the unit beside what is told).
+mod cancel;
 mod command;
+mod frame;
 mod receiver;
+mod setup;
+mod take;
 mod worker;
 
 pub use receiver::receive;
@@ -46,45 +50,42 @@ pub enum Fault {
     Nack(u8, u8),
 }
 
-// What is told of making a unit.
+// What is told of making a unit, of receiving bytes and of the work step, as the definitions put it. An enum cannot hold the frame buffer
+// in code that Rattle proves by itself, so the functions give the unit beside the case (`Stepped`, `Received`), and `specs/Answers.antt`
+// puts the two together.
 pub enum MakeAnswer {
     Device(Device),
     Refused(Refusal),
 }
 
-// What is told of receiving bytes: the unit afterwards, and the length of the answer that lies at the start of the lent output. A refusal
-// leaves unit and output as they came.
 pub enum ReceiveAnswer {
     Answer(Device, usize),
     Silent(Device),
     Refused(Refusal),
 }
 
-// What is told of the work step: the unit afterwards. A refusal leaves unit and store as they came.
 pub enum WorkAnswer {
     Device(Device),
     Refused(Refusal),
 }
 
-// The functions give the unit beside the case, since no enum of covered code holds an array; `specs/Answers.antt` puts the two together.
-
-// What making a unit and the work step give.
+// The answer of making a unit and of the work step. A refused work step leaves unit and store as they came.
 pub struct Stepped {
     pub device: Device,
     pub verdict: Verdict,
 }
 
-// What receiving bytes comes to.
+// The answer of receiving bytes. A refusal leaves unit and output as they came.
+pub struct Received {
+    pub device: Device,
+    pub outcome: Outcome,
+}
+
+// What receiving bytes comes to: an answer of this length lies at the start of the lent output, or there is none.
 pub enum Outcome {
     Answer(usize),
     Silent,
     Refused(Refusal),
-}
-
-// What receiving bytes gives.
-pub struct Received {
-    pub device: Device,
-    pub outcome: Outcome,
 }
 
 impl Phase {
@@ -132,7 +133,7 @@ impl Device {
     }
 }
 
-// A unit at first, with its own address.
+// A unit at first, with its own address. Where that is 0 it is refused, and the unit beside the refusal is of no use.
 pub fn make(link: Link, own: u8) -> Stepped
     ensures { λ r. ⌜ makeTold (makeAnswer (r .verdict) (r .device)) ≡ make link own ⌝ }
     ensures { λ r. ⌜ r .device ≡ newDevice link own ⌝ }

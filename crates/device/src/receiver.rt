@@ -84,28 +84,15 @@ fn command_reply(
     ensures { λ r. ⌜ r .device ≡ afterReceive device (within (now (out .entry)) (commandReply device message (now (payload .entry)) (commandFault device store (message .id) (now (payload .entry))))) ⌝ }
     ensures { λ _. ⌜ now (out .exit) ≡ laid (within (now (out .entry)) (commandReply device message (now (payload .entry)) (commandFault device store (message .id) (now (payload .entry))))) (now (out .entry)) ⌝ }
 {
-    let link = device.link;
     match command::command_fault(device, store, message.id, payload) {
         Fault::None => {
             let next = command::command_done(device, message.id, payload);
-            send(
-                device,
-                next,
-                link,
-                answer_to(device, message, Kind::TelecommandAck, 0, 0),
-                &[],
-                out,
-            )
+            let answer = answer_to(device, message, Kind::TelecommandAck, 0, 0);
+            send(device, next, answer, &[], out)
         }
         Fault::Nack(error, index) => {
-            send(
-                device,
-                device,
-                link,
-                answer_to(device, message, Kind::TelecommandNack, error, index),
-                &[],
-                out,
-            )
+            let answer = answer_to(device, message, Kind::TelecommandNack, error, index);
+            send(device, device, answer, &[], out)
         }
     }
 }
@@ -115,48 +102,29 @@ fn telemetry_reply(device: Device, message: Message, out: &mut [u8]) -> Received
     ensures { λ r. ⌜ r .device ≡ afterReceive device (within (now (out .entry)) (telemetryReply device message)) ⌝ }
     ensures { λ _. ⌜ now (out .exit) ≡ laid (within (now (out .entry)) (telemetryReply device message)) (now (out .entry)) ⌝ }
 {
-    let link = device.link;
     if message.id == 150 {
         let info = info_bytes(device);
-        return send(
-            device,
-            device,
-            link,
-            answer_to(device, message, Kind::TelemetryResponse, 0, 0),
-            &info,
-            out,
-        );
+        let answer = answer_to(device, message, Kind::TelemetryResponse, 0, 0);
+        return send(device, device, answer, &info, out);
     }
-    send(
-        device,
-        device,
-        link,
-        answer_to(device, message, Kind::TelemetryNack, 1, 0),
-        &[],
-        out,
-    )
+    let answer = answer_to(device, message, Kind::TelemetryNack, 1, 0);
+    send(device, device, answer, &[], out)
 }
 
-// Writes an answer, with the unit as it is then.
-fn send(
-    device: Device,
-    next: Device,
-    link: Link,
-    answer: Message,
-    payload: &[u8],
-    out: &mut [u8],
-) -> Received
-    ensures { λ r. ⌜ receiveTold (receiveAnswer (r .outcome) (r .device)) ≡ counted (within (now (out .entry)) (answered next (linkWrite link answer (now (payload .entry))))) ⌝ }
-    ensures { λ r. ⌜ r .device ≡ afterReceive device (within (now (out .entry)) (answered next (linkWrite link answer (now (payload .entry))))) ⌝ }
-    ensures { λ _. ⌜ now (out .exit) ≡ laid (within (now (out .entry)) (answered next (linkWrite link answer (now (payload .entry))))) (now (out .entry)) ⌝ }
+// Writes an answer, with the unit as it is before and after it.
+fn send(before: Device, next: Device, answer: Message, payload: &[u8], out: &mut [u8]) -> Received
+    ensures { λ r. ⌜ receiveTold (receiveAnswer (r .outcome) (r .device)) ≡ counted (within (now (out .entry)) (answered next (linkWrite (before .link) answer (now (payload .entry))))) ⌝ }
+    ensures { λ r. ⌜ r .device ≡ afterReceive before (within (now (out .entry)) (answered next (linkWrite (before .link) answer (now (payload .entry))))) ⌝ }
+    ensures { λ _. ⌜ now (out .exit) ≡ laid (within (now (out .entry)) (answered next (linkWrite (before .link) answer (now (payload .entry))))) (now (out .entry)) ⌝ }
 {
+    let link = before.link;
     match link::write(link, answer, payload, out) {
         WriteAnswer::Length(n) => Received {
             device: next,
             outcome: Outcome::Answer(n),
         },
         WriteAnswer::Refused(refusal) => Received {
-            device,
+            device: before,
             outcome: Outcome::Refused(refusal),
         },
     }

@@ -34,6 +34,7 @@ pub fn work(device: Device, store: &mut [u8]) -> Stepped
     let at = device.stored as usize;
     let length = device.frame_length();
     let buffer = device.buffer;
+    // There is room, so nothing is refused here.
     message::lay(&buffer[..length], &mut store[at..]);
     Stepped {
         device: frame_stored(device),

@@ -2,8 +2,8 @@
 use borrow.Author.Tests.{eq-eqb, ne-eqb, lt-ltb, le-ltb}
 use Rattle.device.specs.Commands.{fault, frameFault}
 use borrow.Author.Needs.{needs}
-use Rattle.device.proofs.command.frame_fault.Statement.{statement}
-use Rattle.device.proofs.command.frame_fault.Tie as tie
+use Rattle.device.proofs.frame.frame_fault.Statement.{statement}
+use Rattle.device.proofs.frame.frame_fault.Tie as tie
 
 returns : tie.Need-returns
 unfolding frameFault fault

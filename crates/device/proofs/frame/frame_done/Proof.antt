@@ -8,8 +8,8 @@ use denote.Ref.{now}
 use lib.ListN.{length, take, drop, replicate, length-set}
 use Rattle.message.proofs.Answers.{copy-step, copy-done}
 use Rattle.device.specs.Commands.{frameDone}
-use Rattle.device.proofs.command.frame_done.Statement.{statement}
-use Rattle.device.proofs.command.frame_done.Tie as tie
+use Rattle.device.proofs.frame.frame_done.Statement.{statement}
+use Rattle.device.proofs.frame.frame_done.Tie as tie
 
 abbrev Inv-loop : tie.InvT-loop
 Inv-loop device payload buffer₀ i₀ buffer i = (i ≤ length payload) × (length buffer ≡ 256) × (buffer ≡ take i payload ++ drop i (replicate 256 0))

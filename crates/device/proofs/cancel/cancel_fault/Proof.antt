@@ -1,8 +1,8 @@
 -- Carried by the length.
 use borrow.Author.Tests.{eq-eqb, ne-eqb}
 use Rattle.device.specs.Commands.{fault, cancelFault}
-use Rattle.device.proofs.command.cancel_fault.Statement.{statement}
-use Rattle.device.proofs.command.cancel_fault.Tie as tie
+use Rattle.device.proofs.cancel.cancel_fault.Statement.{statement}
+use Rattle.device.proofs.cancel.cancel_fault.Tie as tie
 
 returns : tie.Need-returns
 unfolding cancelFault fault

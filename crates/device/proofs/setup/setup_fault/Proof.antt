@@ -6,8 +6,8 @@ use Rattle.little_endian.specs.LittleEndian.{fromBytes}
 use Rattle.device.specs.Commands.{fault, setupFault}
 use Rattle.device.proofs.Payloads.{four-bytes}
 use borrow.Author.Needs.{needs}
-use Rattle.device.proofs.command.setup_fault.Statement.{statement}
-use Rattle.device.proofs.command.setup_fault.Tie as tie
+use Rattle.device.proofs.setup.setup_fault.Statement.{statement}
+use Rattle.device.proofs.setup.setup_fault.Tie as tie
 
 returns : tie.Need-returns
 unfolding setupFault fault

@@ -1,8 +1,8 @@
 -- Carried by the fields, one by one.
 use mathlib.Core.Path.{refl}
 use Rattle.device.specs.Commands.{cancelDone}
-use Rattle.device.proofs.command.cancel_done.Statement.{statement}
-use Rattle.device.proofs.command.cancel_done.Tie as tie
+use Rattle.device.proofs.cancel.cancel_done.Statement.{statement}
+use Rattle.device.proofs.cancel.cancel_done.Tie as tie
 
 returns : tie.Need-returns
 unfolding cancelDone

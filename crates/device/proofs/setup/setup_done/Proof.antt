@@ -1,8 +1,8 @@
 -- Carried by the fields, one by one.
 use mathlib.Core.Path.{refl}
 use Rattle.device.specs.Commands.{setupDone}
-use Rattle.device.proofs.command.setup_done.Statement.{statement}
-use Rattle.device.proofs.command.setup_done.Tie as tie
+use Rattle.device.proofs.setup.setup_done.Statement.{statement}
+use Rattle.device.proofs.setup.setup_done.Tie as tie
 
 returns : tie.Need-returns
 unfolding setupDone

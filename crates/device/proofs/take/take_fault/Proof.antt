@@ -13,8 +13,8 @@ use Rattle.device.specs.Device.{frame}
 use Rattle.device.proofs.Buffers.{frame-most}
 use Rattle.device.proofs.Payloads.{two-bytes}
 use borrow.Author.Needs.{needs}
-use Rattle.device.proofs.command.take_fault.Statement.{statement}
-use Rattle.device.proofs.command.take_fault.Tie as tie
+use Rattle.device.proofs.take.take_fault.Statement.{statement}
+use Rattle.device.proofs.take.take_fault.Tie as tie
 
 returns : tie.Need-returns
 unfolding takeFault fault

@@ -1,8 +1,8 @@
 -- Carried by the fields, one by one.
 use mathlib.Core.Path.{refl}
 use Rattle.device.specs.Commands.{takeDone}
-use Rattle.device.proofs.command.take_done.Statement.{statement}
-use Rattle.device.proofs.command.take_done.Tie as tie
+use Rattle.device.proofs.take.take_done.Statement.{statement}
+use Rattle.device.proofs.take.take_done.Tie as tie
 
 returns : tie.Need-returns
 unfolding takeDone
