@@ -1,5 +1,5 @@
 -- What a caller needs to know of a link, whichever it is: carried by each link's checks, which come before its bytes.
-use Prim.Native.Nat.{ℕ, _+_, _/_, _≤_, _<_}
+use Prim.Native.Nat.{ℕ, _+_, _≤_, _<_}
 use mathlib.Core.Bool.{Bool, true, false, or-true}
 use mathlib.Core.List.{List, _++_}
 use mathlib.Core.Path.{_≡_, refl}
@@ -18,11 +18,10 @@ use Rattle.message.specs.declared.Message.{Message}
 use Rattle.message.proofs.Answers.{after-given, after-passed}
 use Rattle.message.proofs.Checks.{require-passed, both-true, fields-passed}
 use Rattle.message.proofs.Checks as checks
-use Rattle.can.specs.Can.{seriesType, identifier, frame, inSeries, canBytes, canCarries, canWrite}
+use Rattle.can.specs.Can.{seriesType, identifier, inSeries, canBytes, canCarries, canWrite}
 use Rattle.can.proofs.Writing.{identifier-length, frame-length, message-length, single-most}
 use Rattle.csp.specs.Csp.{cspHead, cspCarries, cspWrite}
 use Rattle.serial.specs.Frames.{rowOf, headLength, headFields, sourceLegal, carries, frameBytes, frameWrite}
-use Rattle.serial.specs.Stuffing.{doubled}
 use Rattle.serial.specs.declared.Row.{Row}
 use Rattle.serial.specs.declared.Row.the-variants as Row·of
 use Rattle.serial.specs.declared.SerialLink.{SerialLink}

@@ -1,12 +1,12 @@
 -- Both round trips of demand 2, over every link: carried by each link's own, and by the table of carried fields.
 use Prim.Native.Nat.{ℕ, _≤_}
-use mathlib.Core.Bool.{false, cond}
+use mathlib.Core.Bool.{false}
 use mathlib.Core.List.{List}
-use mathlib.Core.Path.{_≡_, refl, ap, _∙_}
+use mathlib.Core.Path.{_≡_, refl}
 use lib.ListN.{length}
 use Rattle.message.specs.Answer.{given, within, written}
 use Rattle.message.specs.Checks.{writable, writeChecks}
-use Rattle.message.specs.Kinds.{errorLength, isEvent, isNack, carried}
+use Rattle.message.specs.Kinds.{isEvent, carried}
 use Rattle.message.specs.declared.Kind.{Kind}
 use Rattle.message.specs.declared.Kind.the-variants.{Telecommand, TelecommandAck, TelecommandNack, TelemetryRequest, TelemetryResponse, TelemetryNack, Event}
 use Rattle.message.specs.declared.Message.{Message}

@@ -1,5 +1,5 @@
 -- Carried by the tests in their order: each return rewrites with those that led there.
-use mathlib.Core.Path.{_≡_, ap, _∙_}
+use mathlib.Core.Path.{ap, _∙_}
 use borrow.Author.Tests.{eq-eqb, ne-eqb, lt-ltb, le-ltb}
 use denote.Ref.{now}
 use Rattle.little_endian.specs.LittleEndian.{fromBytes}
