@@ -1,7 +1,7 @@
 -- The commands of the table (document 01, "The unit"): the error byte of each, first that applies, and what it does when it is carried out.
 use Prim.Native.Nat.{ℕ, _+_, _-_, _%_}
 use mathlib.Core.Bool.{Bool, true, false, cond, not, _||_}
-use mathlib.Core.List.{List, [], _++_}
+use mathlib.Core.List.{List, _++_}
 use lib.Dec.{ltb, eqb}
 use lib.ListN.{length, drop, replicate}
 use Rattle.little_endian.specs.LittleEndian.{fromBytes}

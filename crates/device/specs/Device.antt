@@ -1,14 +1,12 @@
 -- The unit's state (document 01, "The unit").
 use Prim.Native.Nat.{ℕ}
 use mathlib.Core.Bool.{Bool, true, false, cond}
-use mathlib.Core.List.{List, []}
+use mathlib.Core.List.{List}
 use lib.Dec.{eqb}
-use lib.ListN.{length, take, replicate}
-use Rattle.message.specs.Answer.{Answer, refused, given, number}
+use lib.ListN.{take, replicate}
+use Rattle.message.specs.Answer.{Answer, refused, given}
 use Rattle.link.specs.declared.Link.{Link}
 use Rattle.device.specs.declared.Device.{Device}
-use Rattle.device.specs.declared.MakeAnswer.{MakeAnswer}
-use Rattle.device.specs.declared.MakeAnswer.the-variants as MakeAnswer·of
 use Rattle.device.specs.declared.Phase.{Phase}
 use Rattle.device.specs.declared.Phase.the-variants.{Idle, Open, Finished}
 
@@ -50,7 +48,3 @@ newDevice l own =
 -- "Making a unit with own address 0 is refused with 7 on every link."
 unfoldable pub make : Link → ℕ → Answer Device Unit
 make l own = cond (eqb own 0) (refused 7) (given (newDevice l own) tt)
-
-unfoldable pub makeTold : MakeAnswer → Answer Device Unit
-makeTold (MakeAnswer·of.Refused r) = refused (number r)
-makeTold (MakeAnswer·of.Device d) = given d tt

@@ -2,3 +2,4 @@ pub mod Device
 pub mod Commands
 pub mod Receive
 pub mod Work
+pub mod Answers

@@ -1,10 +1,10 @@
 -- What the unit does with bytes that arrive (document 01, "The unit").
 use Prim.Native.Nat.{ℕ}
-use mathlib.Core.Bool.{Bool, true, false, cond, _||_}
+use mathlib.Core.Bool.{Bool, true, cond, _||_}
 use mathlib.Core.List.{List, [], _∷_, _++_}
 use lib.Dec.{eqb}
 use lib.ListN.{length}
-use Rattle.message.specs.Answer.{Answer, refused, given, number}
+use Rattle.message.specs.Answer.{Answer, refused, given}
 use Rattle.message.specs.declared.ErrorByte.the-variants.{Told}
 use Rattle.message.specs.declared.Kind.{Kind}
 use Rattle.message.specs.declared.Kind.the-variants as Kind·of
@@ -19,8 +19,6 @@ use Rattle.device.specs.Commands.{commandFault, commandDone}
 use Rattle.device.specs.declared.Device.{Device}
 use Rattle.device.specs.declared.Fault.{Fault}
 use Rattle.device.specs.declared.Fault.the-variants.{None, Nack}
-use Rattle.device.specs.declared.ReceiveAnswer.{ReceiveAnswer}
-use Rattle.device.specs.declared.ReceiveAnswer.the-variants as ReceiveAnswer·of
 
 -- The unit after a call that was not refused: it answers, or it is silent.
 pub data Reply : Type 0 where
@@ -92,8 +90,3 @@ messageReply d store (given m p) = cond (isTaken (d .link) (d .own) m) (kindRepl
 -- Bytes arrive while a store of so many bytes is lent. The 8 comes with the lent output.
 unfoldable pub receive : Device → ℕ → List ℕ → Answer Reply (List ℕ)
 receive d store b = messageReply d store (linkRead (d .link) b)
-
-unfoldable pub receiveTold : ReceiveAnswer → Answer Reply ℕ
-receiveTold (ReceiveAnswer·of.Refused r) = refused (number r)
-receiveTold (ReceiveAnswer·of.Answer d n) = given (answers d) n
-receiveTold (ReceiveAnswer·of.Silent d) = given (silent d) 0

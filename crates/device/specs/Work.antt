@@ -1,6 +1,6 @@
 -- The work step (document 01, "The unit"): the unit afterwards, and the bytes that are laid over the store behind what is stored.
 use Prim.Native.Nat.{ℕ, _+_, _%_}
-use mathlib.Core.Bool.{Bool, true, false, cond, _&&_}
+use mathlib.Core.Bool.{Bool, false, cond, _&&_}
 use mathlib.Core.List.{List, [], _++_}
 use lib.Dec.{leb, eqb}
 use lib.ListN.{length, take, drop}
@@ -8,8 +8,6 @@ use Rattle.message.specs.Answer.{Answer, refused, given, number, passed, requir
 use Rattle.device.specs.Device.{frame}
 use Rattle.device.specs.declared.Device.{Device}
 use Rattle.device.specs.declared.Phase.the-variants.{Finished}
-use Rattle.device.specs.declared.WorkAnswer.{WorkAnswer}
-use Rattle.device.specs.declared.WorkAnswer.the-variants as WorkAnswer·of
 
 -- "Stores a pending frame after what is stored, raises the number by one (after 0xFFFF comes 0, in sixteen bits), empties the buffer, and
 -- finishes when the size is reached."
@@ -43,10 +41,6 @@ work d store =
 unfoldable pub storeAfter : Device → Answer Device (List ℕ) → List ℕ → List ℕ
 storeAfter d (refused n) s = s
 storeAfter d (given d′ b) s = take (d .stored) s ++ (b ++ drop (d .stored + length b) s)
-
-unfoldable pub workTold : WorkAnswer → Answer Device Unit
-workTold (WorkAnswer·of.Refused r) = refused (number r)
-workTold (WorkAnswer·of.Device d) = given d tt
 
 -- The unit alone, without the bytes.
 unfoldable pub worked : Answer Device (List ℕ) → Answer Device Unit

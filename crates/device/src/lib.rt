@@ -1,10 +1,24 @@
 // The unit that takes an upload (document 01, "The unit"). Its state goes by value: each call takes it and gives the next one.
 //
-// The rules are definitions of `specs/`: `Device` (the state, and what is answered), `Commands` (the faults of each command and
-// what it does) and `Work` (the work step).
+// The rules are definitions of `specs/`: `Device` (the state), `Commands` (the faults of each command and what it does), `Receive` (what
+// arriving bytes come to), `Work` (the work step) and `Answers` (what is told, and the unit afterwards).
+mod cancel;
+mod command;
+mod frame;
+mod receiver;
+mod setup;
+mod take;
+mod worker;
+
+pub use receiver::receive;
+pub use worker::work;
 ghost use mathlib.Core.Path.{_≡_};
+ghost use lib.ListN.{length};
+ghost use Rattle.device.specs.Answers.{stepTold};
+ghost use Rattle.device.specs.Device.{isIdle, isOpen, isFinished, frame, newDevice, make};
 use link::Link;
 use message::Refusal;
+use message::Verdict;
 
 pub enum Phase {
     Idle,
@@ -36,22 +50,94 @@ pub enum Fault {
     Nack(u8, u8),
 }
 
-// The answer of making a unit.
-pub enum MakeAnswer {
-    Device(Device),
+// The answer of making a unit and of the work step. A refused work step leaves unit and store as they came.
+pub struct Stepped {
+    pub device: Device,
+    pub verdict: Verdict,
+}
+
+// The answer of receiving bytes. A refusal leaves unit and output as they came.
+pub struct Received {
+    pub device: Device,
+    pub outcome: Outcome,
+}
+
+// What receiving bytes comes to: an answer of this length lies at the start of the lent output, or there is none.
+pub enum Outcome {
+    Answer(usize),
+    Silent,
     Refused(Refusal),
 }
 
-// The answer of receiving bytes: the unit afterwards, and the length of the answer that lies at the start of the lent output. A refusal
-// leaves unit and output as they came.
-pub enum ReceiveAnswer {
-    Answer(Device, usize),
-    Silent(Device),
-    Refused(Refusal),
+impl Phase {
+    pub(crate) fn is_idle(self) -> bool
+        ensures { λ r. ⌜ r ≡ isIdle self ⌝ }
+    {
+        match self {
+            Phase::Idle => true,
+            Phase::Open => false,
+            Phase::Finished => false,
+        }
+    }
+
+    pub(crate) fn is_open(self) -> bool
+        ensures { λ r. ⌜ r ≡ isOpen self ⌝ }
+    {
+        match self {
+            Phase::Idle => false,
+            Phase::Open => true,
+            Phase::Finished => false,
+        }
+    }
+
+    pub(crate) fn is_finished(self) -> bool
+        ensures { λ r. ⌜ r ≡ isFinished self ⌝ }
+    {
+        match self {
+            Phase::Idle => false,
+            Phase::Open => false,
+            Phase::Finished => true,
+        }
+    }
 }
 
-// The answer of the work step: the unit afterwards. A refusal leaves unit and store as they came.
-pub enum WorkAnswer {
-    Device(Device),
-    Refused(Refusal),
+impl Device {
+    // How many bytes the frame in the buffer has.
+    pub(crate) fn frame_length(self) -> usize
+        ensures { λ r. ⌜ r ≡ length (frame self) ⌝ }
+    {
+        let buffered = self.buffered as usize;
+        if 256 < buffered {
+            return 256;
+        }
+        buffered
+    }
+}
+
+// A unit at first, with its own address. Where that is 0 it is refused, and the unit beside the refusal is of no use.
+pub fn make(link: Link, own: u8) -> Stepped
+    ensures { λ r. ⌜ stepTold (r .verdict) (r .device) ≡ make link own ⌝ }
+    ensures { λ r. ⌜ r .device ≡ newDevice link own ⌝ }
+{
+    let device = Device {
+        link,
+        own,
+        phase: Phase::Idle,
+        number: 0xFFFF,
+        buffer: [0u8; 256],
+        buffered: 0,
+        pending: false,
+        size: 0,
+        stored: 0,
+    };
+    if own == 0 {
+        return Stepped {
+            device,
+            verdict: Verdict::Refused(Refusal::IllegalValue),
+        };
+    }
+    Stepped {
+        device,
+        verdict: Verdict::Passed,
+    }
 }

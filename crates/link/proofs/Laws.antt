@@ -17,6 +17,7 @@ use Rattle.message.specs.declared.Kind.the-variants.{Telecommand, TelecommandAc
 use Rattle.message.specs.declared.Message.{Message}
 use Rattle.message.proofs.Answers.{after-given, after-passed}
 use Rattle.message.proofs.Checks.{require-passed, both-true, fields-passed}
+use Rattle.message.proofs.Checks as checks
 use Rattle.can.specs.Can.{seriesType, identifier, frame, inSeries, canBytes, canCarries, canWrite, allFrames, complete, canRead}
 use Rattle.can.proofs.Writing.{identifier-length, frame-length, message-length, single-most}
 use Rattle.csp.specs.Csp.{cspHead, cspCarries, cspRead, cspWrite}
@@ -100,6 +101,14 @@ bytes-most Can m p b e =
 bytes-most Csp m p b e =
     let g = after-given (writeChecks cspCarries m (length p)) tt tt (cspHead m ++ p) b e in
     rw (← g .2) (simp length-append (omega (arith, data-most cspCarries m p (g .0))))
+
+-- What is written has a payload of at most 256 bytes.
+pub payload-most : (l : Link) (m : Message) (p b : List ℕ) → linkWrite l m p ≡ written b → length p ≤ 256
+unfolding linkWrite frameWrite canWrite cspWrite
+payload-most Uart m p b e = checks.payload-most _ m _ (after-passed (writeChecks (carries SerialLink·of.Uart) m (length p)) _ tt b e .0)
+payload-most Rs485 m p b e = checks.payload-most _ m _ (after-passed (writeChecks (carries SerialLink·of.Rs485) m (length p)) _ tt b e .0)
+payload-most Can m p b e = checks.payload-most _ m _ (after-passed (writeChecks canCarries m (length p)) _ tt b e .0)
+payload-most Csp m p b e = checks.payload-most _ m _ (after-passed (writeChecks cspCarries m (length p)) _ tt b e .0)
 
 -- A message that every link can write: no event, its error told if it is a nack, its fields legal for its kind; and on RS485 a source,
 -- which is not 0.

@@ -23,7 +23,7 @@ use Rattle.link.specs.Link.{linkRead, linkWrite, idCarried, addressCarri
 use Rattle.link.specs.RoundTrip.{WrittenReads, ReadWrites}
 use Rattle.link.specs.declared.Link.{Link}
 use Rattle.link.specs.declared.Link.the-variants.{Uart, Rs485, Can, Csp}
-use Rattle.link.proofs.Laws.{Legal, within-given, bytes-most, legal-writes}
+use Rattle.link.proofs.Laws.{Legal, within-given, bytes-most, payload-most, legal-writes}
 
 -- The table agrees with what each link reads.
 id-of-row : (k : Kind) (id : ℕ) → frames.idCarried (frames.rowOf k) id ≡ idCarried k id
@@ -74,6 +74,10 @@ read-writes Uart b m p e = serial.read-writes SerialLink·of.Uart b m p e
 read-writes Rs485 b m p e = serial.read-writes SerialLink·of.Rs485 b m p e
 read-writes Can b m p e = can.read-writes b m p e
 read-writes Csp b m p e = csp.read-writes b m p e
+
+-- So what was read has a payload of at most 256 bytes.
+pub read-most : (l : Link) (b : List ℕ) (m : Message) (p : List ℕ) → linkRead l b ≡ given m p → length p ≤ 256
+read-most l b m p e = payload-most l m p b (read-writes l b m p e)
 
 -- A legal message is written, within the link's bound, and arrives.
 pub record Arrives (l : Link) (m : Message) (p : List ℕ) : Type 0 where

@@ -16,11 +16,12 @@ use Rattle.serial.specs.Frames.{frameRead, frameWrite}
 use Rattle.serial.specs.declared.SerialLink.the-variants.{Uart, Rs485}
 use Rattle.link.specs.Link.{linkRead, linkWrite, linkCarried}
 use Rattle.link.specs.declared.Link.{Link}
+use Rattle.device.specs.Answers.{afterReceive}
 use Rattle.device.specs.Device.{newDevice}
 use Rattle.device.specs.Receive.{receive}
 use Rattle.upload.specs.Schedule.{Fate, deliver, loseAnswer, Round, output, scheduled}
 use Rattle.upload.specs.Sender.{newSender, framesKnown}
-use Rattle.upload.specs.World.{World, shared, works, asks, arrives, does, run, replied, bytesOr}
+use Rattle.upload.specs.World.{World, shared, works, asks, arrives, does, run, bytesOr}
 use Rattle.upload.specs.declared.State.the-variants.{Finished}
 
 -- A message of a kind, an ID and addresses whose other fields are 0.
@@ -51,7 +52,7 @@ opened l =
     let unit = newDevice l 31 in
     let setup = bytesOr [] (linkWrite l (plain Telecommand 20 255 31) (toBytes 4 300)) in
     record {
-      device = replied unit (receive unit 303 setup);
+      device = afterReceive unit (receive unit 303 setup);
       store = emptyStore;
       sender = newSender l 255 31 300;
       request = [];

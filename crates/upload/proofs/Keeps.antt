@@ -8,6 +8,7 @@ use borrow.Author.Tests.{eq-eqb}
 use lib.ListN.{length}
 use Rattle.message.specs.Answer.{given, require}
 use Rattle.link.specs.Link.{linkRead}
+use Rattle.device.specs.Answers.{afterReceive}
 use Rattle.device.specs.Receive.{answers, receive}
 use Rattle.device.specs.Work.{work}
 use Rattle.device.specs.declared.Device.{Device}
@@ -18,7 +19,7 @@ use Rattle.upload.specs.declared.Meaning.the-variants.{Stay, Forward}
 use Rattle.upload.specs.declared.State.the-variants.{Running}
 use Rattle.upload.specs.Legal.{Place, begun, asked, arrived, repeated, between, Legal, stops, refuses, workDone, requestMade, requestArrives, requestRepeats, delivered, requestLost, answerLost, twice, endedWorks, endedAsks, endedHears}
 use Rattle.upload.specs.Stored.{Mark, markWorked, markCall, markAfter}
-use Rattle.upload.specs.World.{World, Lent, shared, lent, kept, Call, works, asks, arrives, hears, replied, bytesOr, senderOr, does, run, isRefused}
+use Rattle.upload.specs.World.{World, Lent, shared, lent, kept, Call, works, asks, arrives, hears, bytesOr, senderOr, does, run, isRefused}
 use Rattle.upload.proofs.Arriving.{arrivedBuffer, arrived-stands, arrived-quiet, arrival, read-takes, arrived-mark}
 use Rattle.upload.proofs.Asking.{unrefused, asks-request}
 use Rattle.upload.proofs.Files.{count-legal}
@@ -103,7 +104,7 @@ module _ (u : Upload) (w : World) (past : List Bool) (marks : ℕ → Mark) wher
   pub keeps-arrive : (p : Place) (d : Bool) (out : List ℕ) (h : Running· u p w past marks) → Quiet d (h .row .stage) (h .row .buffer) → Asked u w (h .row .stage) (h .row .frame)
       → isRefused (u .file) w (arrives (w .request) shared out) ≡ false
       → Running· u (arrived d) (does (u .file) w (arrives (w .request) shared out)) past (marksAfter (u .file) w (arrives (w .request) shared out) marks)
-  unfolding isRefused does lent replied bytesOr markCall
+  unfolding isRefused does lent afterReceive bytesOr markCall
   keeps-arrive p d out h quiet request e =
       let r = h .row in
       let a = arrival u (w .request) (r .frame) (h .since) (length past) (length (w .store)) (h .course .below) d (r .stage) (r .buffer) (r .stored) (r .unit .buffer) (r .unit .buffered) request (r .stands) quiet (r .unit .holding) in

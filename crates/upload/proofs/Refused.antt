@@ -5,11 +5,12 @@ use mathlib.Core.List.{List}
 use mathlib.Core.Path.{_≡_, refl}
 use native.Mathlib.Omega.{arith}
 use Rattle.message.specs.Answer.{Answer, refused, given}
+use Rattle.device.specs.Answers.{afterReceive, afterWork}
 use Rattle.device.specs.Receive.{Reply}
 use Rattle.device.specs.Work.{storeAfter}
 use Rattle.device.specs.declared.Device.{Device}
 use Rattle.upload.specs.declared.Sender.{Sender}
-use Rattle.upload.specs.World.{World, Lent, shared, other, lent, kept, Call, works, asks, arrives, hears, deviceOr, replied, bytesOr, senderOr, workAnswer, askAnswer, arriveAnswer, hearAnswer, does, isRefusal, isRefused}
+use Rattle.upload.specs.World.{World, Lent, shared, other, lent, kept, Call, works, asks, arrives, hears, bytesOr, senderOr, workAnswer, askAnswer, arriveAnswer, hearAnswer, does, isRefusal, isRefused}
 
 lent-kept : (l : Lent) (s : List ℕ) → kept l (lent l s) s ≡ s
 unfolding lent kept
@@ -21,8 +22,8 @@ unfolding isRefusal
 no-refusal a b e = absurd (let z : _≡_ {A = ℕ} 0 1 = cc in omega arith)
 
 work-leaves : (d : Device) (s : List ℕ) (l : Lent) (a : Answer Device (List ℕ)) → isRefusal a ≡ true
-    → (deviceOr d a ≡ d) × (kept l (storeAfter d a (lent l s)) s ≡ s)
-unfolding deviceOr storeAfter
+    → (afterWork d a ≡ d) × (kept l (storeAfter d a (lent l s)) s ≡ s)
+unfolding afterWork storeAfter
 work-leaves d s l (refused n) e = (refl, lent-kept l s)
 work-leaves d s l (given d′ b) e = no-refusal d′ b e
 
@@ -31,8 +32,8 @@ unfolding bytesOr
 bytes-leave b (refused n) e = refl
 bytes-leave b (given x b′) e = no-refusal x b′ e
 
-reply-leaves : (d : Device) (a : Answer Reply (List ℕ)) → isRefusal a ≡ true → replied d a ≡ d
-unfolding replied
+reply-leaves : (d : Device) (a : Answer Reply (List ℕ)) → isRefusal a ≡ true → afterReceive d a ≡ d
+unfolding afterReceive
 reply-leaves d (refused n) e = refl
 reply-leaves d (given r b) e = no-refusal r b e
 
@@ -43,7 +44,7 @@ hear-leaves s (given s′ u) e = no-refusal s′ u e
 
 pub refused-leaves : (file : List ℕ) (w : World) (c : Call) → isRefused file w c ≡ true → does file w c ≡ w
 unfolding isRefused does
-refused-leaves file w (works l) e = let g = work-leaves (w .device) (w .store) l (workAnswer w l) e in rw (g .0, g .1)
+refused-leaves file w (works l) e = let g = work-leaves (w .device) (w .store) l (workAnswer w l) e in simp (g .0, g .1)
 refused-leaves file w (asks l out) e = rw (bytes-leave (w .request) (askAnswer file w l out) e)
 refused-leaves file w (arrives b l out) e = rw (reply-leaves (w .device) (arriveAnswer w b l out) e, bytes-leave (w .answer) (arriveAnswer w b l out) e)
 refused-leaves file w (hears l b) e = rw (hear-leaves (w .sender) (hearAnswer file w l b) e)

@@ -10,13 +10,14 @@ use lib.Dec.{ltb, eqb}
 use lib.ListN.{length, take, take-append-drop}
 use Rattle.message.specs.Answer.{given, require, after}
 use Rattle.file.specs.File.{fileFrame}
+use Rattle.device.specs.Answers.{afterWork}
 use Rattle.device.specs.Device.{frame}
 use Rattle.device.specs.Work.{frameStored, hasRoom, work, storeAfter}
 use Rattle.device.specs.declared.Device.{Device}
 use Rattle.upload.specs.declared.Stage.{Stage}
 use Rattle.upload.specs.declared.Stage.the-variants.{Frame, Back, Compare, Take, Confirm}
 use Rattle.upload.specs.Stored.{Mark, stored, markWorked}
-use Rattle.upload.specs.World.{deviceOr, isRefusal}
+use Rattle.upload.specs.World.{isRefusal}
 use Rattle.upload.proofs.Files.{stored-next, size-reached, beginning-length, store-next}
 use Rattle.upload.proofs.Situations.{unitAt}
 use Rattle.upload.proofs.Table.{Upload, Buffer, free, loaded, pending, isPending, Stands, Quiet, markOf, frames, UnitAt}
@@ -88,8 +89,8 @@ module _ (u : Upload) where
 
   -- The unit and its store after a work step with nothing pending,
   rests : (i : ℕ) (b : Buffer) (d : Device) (store : List ℕ) (marks : ℕ → Mark) → isPending b ≡ false → workedCount b i ≡ i → workedBuffer b ≡ b → UnitAt u i b d store marks
-      → UnitAt u i b (deviceOr d (work d (length store))) (storeAfter d (work d (length store)) store) (λ j. markWorked (marks j))
-  unfolding work deviceOr storeAfter
+      → UnitAt u i b (afterWork d (work d (length store))) (storeAfter d (work d (length store)) store) (λ j. markWorked (marks j))
+  unfolding work afterWork storeAfter
   rests i b d store marks still count buffer h =
       rw (h .device, still)
       (record {
@@ -103,8 +104,8 @@ module _ (u : Upload) where
 
   -- and with frame i pending.
   stores-frame : (i : ℕ) (d : Device) (store : List ℕ) (marks : ℕ → Mark) → UnitAt u i pending d store marks
-      → UnitAt u (i + 1) free (deviceOr d (work d (length store))) (storeAfter d (work d (length store)) store) (λ j. markWorked (marks j))
-  unfolding deviceOr storeAfter
+      → UnitAt u (i + 1) free (afterWork d (work d (length store))) (storeAfter d (work d (length store)) store) (λ j. markWorked (marks j))
+  unfolding afterWork storeAfter
   stores-frame i d store marks h =
       let n = length (u .file) in
       let long : length (u .file) ≤ length store = rw (h .stores, beginning-length (u .file) (u .start) i (u .room)) (u .room) in
@@ -120,7 +121,7 @@ module _ (u : Upload) where
       })
 
   pub work-unit : (i : ℕ) (b : Buffer) (d : Device) (store : List ℕ) (marks : ℕ → Mark) → UnitAt u i b d store marks
-      → UnitAt u (workedCount b i) (workedBuffer b) (deviceOr d (work d (length store))) (storeAfter d (work d (length store)) store) (λ j. markWorked (marks j))
+      → UnitAt u (workedCount b i) (workedBuffer b) (afterWork d (work d (length store))) (storeAfter d (work d (length store)) store) (λ j. markWorked (marks j))
   work-unit i free d store marks h = rests i free d store marks refl refl refl h
   work-unit i loaded d store marks h = rests i loaded d store marks refl refl refl h
   work-unit i pending d store marks h = stores-frame i d store marks h

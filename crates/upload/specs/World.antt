@@ -5,7 +5,8 @@ use mathlib.Core.Bool.{Bool, true, false}
 use mathlib.Core.List.{List, [], _∷_}
 use lib.ListN.{length}
 use Rattle.message.specs.Answer.{Answer, refused, given, within}
-use Rattle.device.specs.Receive.{Reply, answers, silent, receive}
+use Rattle.device.specs.Answers.{afterReceive, afterWork}
+use Rattle.device.specs.Receive.{Reply, receive}
 use Rattle.device.specs.Work.{work, storeAfter}
 use Rattle.device.specs.declared.Device.{Device}
 use Rattle.upload.specs.Round.{hear}
@@ -44,15 +45,6 @@ pub data Call : Type 0 where
   hears : Lent → List ℕ → Call
 
 -- What is there afterwards: as before where the call was refused.
-unfoldable pub deviceOr : Device → Answer Device (List ℕ) → Device
-deviceOr d (refused n) = d
-deviceOr d (given d′ b) = d′
-
-unfoldable pub replied : Device → Answer Reply (List ℕ) → Device
-replied d (refused n) = d
-replied d (given (answers d′) b) = d′
-replied d (given (silent d′) b) = d′
-
 unfoldable pub bytesOr : {A : Type 0} → List ℕ → Answer A (List ℕ) → List ℕ
 bytesOr b (refused n) = b
 bytesOr b (given a b′) = b′
@@ -78,7 +70,7 @@ hearAnswer file w l b = hear (w .sender) (lent l file) b
 unfoldable pub does : List ℕ → World → Call → World
 does file w (works l) =
     record {
-      device = deviceOr (w .device) (workAnswer w l);
+      device = afterWork (w .device) (workAnswer w l);
       store = kept l (storeAfter (w .device) (workAnswer w l) (lent l (w .store))) (w .store);
       sender = w .sender;
       request = w .request;
@@ -94,7 +86,7 @@ does file w (asks l out) =
     }
 does file w (arrives b l out) =
     record {
-      device = replied (w .device) (arriveAnswer w b l out);
+      device = afterReceive (w .device) (arriveAnswer w b l out);
       store = w .store;
       sender = w .sender;
       request = w .request;

@@ -1,0 +1,6 @@
+mod Buffers
+mod Payloads
+mod Faults
+mod Readings
+mod Replies
+mod Works

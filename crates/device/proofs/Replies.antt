@@ -1,0 +1,95 @@
+-- What is told of a reply, and what the output and the unit are then: of silence, and of what a writer answered.
+use Prim.Native.Nat.{ℕ}
+use mathlib.Core.Bool.{Bool, true, false, cond}
+use mathlib.Core.List.{List, []}
+use mathlib.Core.Path.{_≡_, refl}
+use native.Mathlib.Omega.{arith}
+use lib.Dec.{leb}
+use lib.ListN.{length}
+use Rattle.message.specs.Answer.{Answer, refused, given, number, require, after, within, counted, laid, writeTold}
+use Rattle.message.specs.declared.Kind.{Kind}
+use Rattle.message.specs.declared.Kind.the-variants as Kind·of
+use Rattle.message.specs.declared.Message.{Message}
+use Rattle.message.specs.declared.Refusal.{Refusal}
+use Rattle.message.specs.declared.WriteAnswer.the-variants as WriteAnswer·of
+use Rattle.message.proofs.Answers.{long-enough}
+use Rattle.link.specs.Link.{linkRead, linkWrite}
+use Rattle.device.specs.Answers.{receiveTold, afterReceive}
+use Rattle.device.specs.Commands.{commandDone}
+use Rattle.device.specs.Receive.{Reply, answers, silent, answered, answerTo, commandReply, isTaken, silence, kindReply, messageReply, receive}
+use Rattle.device.specs.declared.Device.{Device}
+use Rattle.device.specs.declared.Fault.{Fault}
+use Rattle.device.specs.declared.Fault.the-variants as Fault·of
+use Rattle.device.specs.declared.Outcome.the-variants as Outcome·of
+use Rattle.device.specs.declared.Received.{Received}
+
+-- What a call owes of a reply: what it tells, the unit and the output.
+abbrev pub Gives : Device → List ℕ → Answer Reply (List ℕ) → Received → List ℕ → Type 0
+Gives d out x r out′ =
+    (receiveTold (r .outcome) (r .device) ≡ counted (within out x)) × ((r .device ≡ afterReceive d (within out x)) × (out′ ≡ laid (within out x) out))
+
+-- A reply that is equal to one that was given.
+pub equal-gives : (d : Device) (out : List ℕ) (x y : Answer Reply (List ℕ)) (r : Received) (out′ : List ℕ) → x ≡ y → Gives d out y r out′ → Gives d out x r out′
+equal-gives d out x y r out′ e g = rw e g
+
+pub silence-gives : (d : Device) (out : List ℕ) (x : Answer Reply (List ℕ)) (r : Received) → (r .device ≡ d) × (r .outcome ≡ Outcome·of.Silent) → x ≡ silence d → Gives d out x r out
+unfolding receiveTold afterReceive counted laid
+silence-gives d out x r told e = rw (e, long-enough out (silent d) [] (omega arith), told .0, told .1) (refl, (refl, refl))
+
+pub by-kind : (k k′ : Kind) (d : Device) (store : ℕ) (m : Message) (p : List ℕ) → k ≡ k′ → kindReply k d store m p ≡ kindReply k′ d store m p
+by-kind k k′ d store m p e = rw e
+
+-- Bytes that read as a refusal, and a message that is not for the unit or is.
+pub refused-reply : (d : Device) (store : ℕ) (b : List ℕ) (n : ℕ) → linkRead (d .link) b ≡ refused n → receive d store b ≡ silence d
+unfolding receive messageReply
+refused-reply d store b n e = rw e
+
+pub message-reply : (d : Device) (store : ℕ) (b : List ℕ) (m : Message) (p : List ℕ) (t : Bool) → linkRead (d .link) b ≡ given m p → isTaken (d .link) (d .own) m ≡ t
+    → receive d store b ≡ cond t (kindReply (m .kind) d store m p) (silence d)
+unfolding receive messageReply
+message-reply d store b m p t e q = rw (e, q)
+
+-- A command by its fault.
+module _ (d : Device) (m : Message) (p : List ℕ) (f : Fault) (answer : Message) where
+  pub ack-reply : (next : Device) → f ≡ Fault·of.None → next ≡ commandDone d (m .id) p → answer ≡ answerTo d m Kind·of.TelecommandAck 0 0
+      → commandReply d m p f ≡ answered next (linkWrite (d .link) answer [])
+  unfolding commandReply
+  ack-reply next e done same = rw (e, done, same)
+
+  pub nack-reply : (error index : ℕ) → f ≡ Fault·of.Nack error index → answer ≡ answerTo d m Kind·of.TelecommandNack error index
+      → commandReply d m p f ≡ answered d (linkWrite (d .link) answer [])
+  unfolding commandReply
+  nack-reply error index e same = rw (e, same)
+
+-- The output's 8 comes before or after the unit is told with the bytes, all the same.
+within-answered : (d : Device) (out : List ℕ) (x : Answer Unit (List ℕ)) → within out (answered d x) ≡ answered d (within out x)
+unfolding answered within after require
+within-answered d out (refused n) = refl
+within-answered d out (given u b) = by (leb (length b) (length out)) refl
+  where
+    by : (t : Bool) → leb (length b) (length out) ≡ t → within out (answered d (given u b)) ≡ answered d (within out (given u b))
+    by true q = rw q
+    by false q = rw q
+
+-- What a writer answered, told with the unit.
+module _ (d next : Device) (out out′ : List ℕ) where
+  answer-told : (n : ℕ) (y : Answer Unit (List ℕ)) → given tt n ≡ counted y → out′ ≡ laid y out
+      → (given (answers next) n ≡ counted (answered next y)) × ((next ≡ afterReceive d (answered next y)) × (out′ ≡ laid (answered next y) out))
+  unfolding counted laid answered afterReceive
+  answer-told n (refused k) told left = absurd (let z : _≡_ {A = ℕ} 0 1 = cc in omega arith)
+  answer-told n (given u b) told left = let same : n ≡ length b = cc in (rw same, (refl, left))
+
+  refusal-told : (n : ℕ) (y : Answer Unit (List ℕ)) → refused n ≡ counted y → out′ ≡ laid y out
+      → (refused n ≡ counted (answered next y)) × ((d ≡ afterReceive d (answered next y)) × (out′ ≡ laid (answered next y) out))
+  unfolding counted laid answered afterReceive
+  refusal-told n (refused k) told left = let same : n ≡ k = cc in (rw same, (refl, left))
+  refusal-told n (given u b) told left = absurd (let z : _≡_ {A = ℕ} 0 1 = cc in omega arith)
+
+  module _ (x : Answer Unit (List ℕ)) (left : out′ ≡ laid (within out x) out) where
+    pub answer-gives : (n : ℕ) → writeTold (WriteAnswer·of.Length n) ≡ counted (within out x) → Gives d out (answered next x) (record { device = next; outcome = Outcome·of.Answer n }) out′
+    unfolding receiveTold writeTold
+    answer-gives n told = rw (within-answered next out x) (answer-told n (within out x) told left)
+
+    pub refusal-gives : (r : Refusal) → writeTold (WriteAnswer·of.Refused r) ≡ counted (within out x) → Gives d out (answered next x) (record { device = d; outcome = Outcome·of.Refused r }) out′
+    unfolding receiveTold writeTold
+    refusal-gives r told = rw (within-answered next out x) (refusal-told (number r) (within out x) told left)

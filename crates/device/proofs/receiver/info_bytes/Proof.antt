@@ -1,0 +1,96 @@
+-- Carried by computation, once each number is known as its bytes.
+use Prim.Native.Nat.{_≤_}
+use mathlib.Core.Bool.{Bool, true, false, cond}
+use mathlib.Core.Path.{_≡_, refl, sym}
+use native.Mathlib.Omega.{arith}
+use mir.Val.{boolByte}
+use lib.ListN.{length}
+use lib.Seq.{length-take-le}
+use Rattle.little_endian.specs.LittleEndian.{toBytes}
+use Rattle.device.specs.Receive.{infoBytes}
+use Rattle.device.proofs.Buffers.{buffer-length, frame-most, frame-taken}
+use borrow.Author.Needs.{needs}
+use Rattle.device.proofs.receiver.info_bytes.Statement.{statement}
+use Rattle.device.proofs.receiver.info_bytes.Tie as tie
+
+frame-length-requires : tie.Need-frame-length-requires
+frame-length-requires c κs = search needs
+
+u16-to-bytes-requires : tie.Need-u16-to-bytes-requires
+u16-to-bytes-requires c κs = search needs
+
+cast-u16-to-bytes : tie.Need-cast-u16-to-bytes
+cast-u16-to-bytes c = omega (arith, c .before .frame-length .ensures, frame-most (c .before .before .before .args .device) (c .before .before .before .good .0))
+
+u16-to-bytes-requires-2 : tie.Need-u16-to-bytes-requires-2
+u16-to-bytes-requires-2 c κs = search needs
+
+array-share-prefix-buffer : tie.Need-array-share-prefix-buffer
+array-share-prefix-buffer c = omega (arith, c .before .before .frame-length .ensures, frame-most (c .before .before .before .before .args .device) (c .before .before .before .before .good .0), buffer-length (c .before .before .before .before .args .device) (c .before .before .before .before .good .0))
+
+slice-aggregate-checksum : tie.Need-slice-aggregate-checksum
+slice-aggregate-checksum c =
+    let d = c .before .before .before .before .before .args .device in
+    let fits : c .before .before .before .frame-length .result ≤ length (d .buffer) = omega (arith, c .before .before .before .frame-length .ensures, frame-most d (c .before .before .before .before .before .good .0), buffer-length d (c .before .before .before .before .before .good .0)) in
+    sym (length-take-le _ _ fits)
+
+checksum-requires : tie.Need-checksum-requires
+checksum-requires c κs = search needs
+
+u16-to-bytes-requires-3 : tie.Need-u16-to-bytes-requires-3
+u16-to-bytes-requires-3 c κs = search needs
+
+array-read-t14 : tie.Need-array-read-t14
+array-read-t14 c = search needs
+
+array-read-t17 : tie.Need-array-read-t17
+array-read-t17 c = search needs
+
+array-read-t20 : tie.Need-array-read-t20
+array-read-t20 c = search needs
+
+array-read-t23 : tie.Need-array-read-t23
+array-read-t23 c = search needs
+
+array-read-t26 : tie.Need-array-read-t26
+array-read-t26 c = search needs
+
+array-read-t29 : tie.Need-array-read-t29
+array-read-t29 c = search needs
+
+is-finished-requires : tie.Need-is-finished-requires
+is-finished-requires c κs = search needs
+
+cast-t31 : tie.Need-cast-t31
+cast-t31 c = search needs
+
+flag : (b : Bool) → boolByte b ≡ cond b 1 0
+flag true = refl
+flag false = refl
+
+returns : tie.Need-returns
+unfolding infoBytes toBytes
+returns c =
+    rw (c .before .before .before .before .before .u16-to-bytes .ensures, c .before .before .before .before .u16-to-bytes2 .ensures, c .before .u16-to-bytes3 .ensures, c .before .before .checksum .ensures, c .before .before .before .before .before .before .frame-length .ensures, frame-taken (c .before .before .before .before .before .before .before .before .args .device), flag (c .is-finished .result), c .is-finished .ensures)
+
+pub info-bytes-spec : {M : Type 1} → statement M
+info-bytes-spec =
+    tie.close
+    (tie.spec
+    frame-length-requires
+    u16-to-bytes-requires
+    cast-u16-to-bytes
+    u16-to-bytes-requires-2
+    array-share-prefix-buffer
+    slice-aggregate-checksum
+    checksum-requires
+    u16-to-bytes-requires-3
+    array-read-t14
+    array-read-t17
+    array-read-t20
+    array-read-t23
+    array-read-t26
+    array-read-t29
+    is-finished-requires
+    cast-t31
+    returns)

@@ -1,0 +1,178 @@
+// Bytes that arrive at the unit, and what it answers.
+ghost use mathlib.Core.Path.{_≡_};
+ghost use lib.ListN.{length};
+ghost use Rattle.message.specs.Answer.{within, counted, laid};
+ghost use Rattle.link.specs.Link.{linkWrite};
+ghost use Rattle.device.specs.Answers.{receiveTold, afterReceive};
+ghost use Rattle.device.specs.Commands.{commandFault};
+ghost use Rattle.device.specs.Receive.{isTaken, answerSource, answerTo, infoBytes, answered, commandReply, telemetryReply, kindReply, receive};
+use crate::Device;
+use crate::Fault;
+use crate::Outcome;
+use crate::Received;
+use crate::command;
+use link::Link;
+use message::ErrorByte;
+use message::Kind;
+use message::Message;
+use message::ReadAnswer;
+use message::WriteAnswer;
+
+// Takes bytes that arrived while a store is lent; an answer goes to the start of out.
+pub fn receive(device: Device, bytes: &[u8], store: &[u8], out: &mut [u8]) -> Received
+    ensures { λ r. ⌜ receiveTold (r .outcome) (r .device) ≡ counted (within (now (out .entry)) (receive device (length (now (store .entry))) (now (bytes .entry)))) ⌝ }
+    ensures { λ r. ⌜ r .device ≡ afterReceive device (within (now (out .entry)) (receive device (length (now (store .entry))) (now (bytes .entry)))) ⌝ }
+    ensures { λ _. ⌜ now (out .exit) ≡ laid (within (now (out .entry)) (receive device (length (now (store .entry))) (now (bytes .entry)))) (now (out .entry)) ⌝ }
+{
+    let link = device.link;
+    let mut payload = [0u8; 256];
+    let ReadAnswer::Message(message, length) = link::read(link, bytes, &mut payload) else {
+        return silence(device);
+    };
+    if !is_taken(link, device.own, message) {
+        return silence(device);
+    }
+    reply(device, store.len(), message, &payload[..length], out)
+}
+
+fn silence(device: Device) -> Received
+    ensures { λ r. ⌜ (r .device ≡ device) × (r .outcome ≡ Outcome.Silent) ⌝ }
+{
+    Received {
+        device,
+        outcome: Outcome::Silent,
+    }
+}
+
+fn is_taken(link: Link, own: u8, message: Message) -> bool
+    ensures { λ r. ⌜ r ≡ isTaken link own message ⌝ }
+{
+    match link {
+        Link::Uart => true,
+        Link::Rs485 => message.destination == own || message.destination == 0,
+        Link::Can => true,
+        Link::Csp => true,
+    }
+}
+
+// The reply to a message for the unit, by its kind.
+fn reply(device: Device, store: usize, message: Message, payload: &[u8], out: &mut [u8]) -> Received
+    ensures { λ r. ⌜ receiveTold (r .outcome) (r .device) ≡ counted (within (now (out .entry)) (kindReply (message .kind) device store message (now (payload .entry)))) ⌝ }
+    ensures { λ r. ⌜ r .device ≡ afterReceive device (within (now (out .entry)) (kindReply (message .kind) device store message (now (payload .entry)))) ⌝ }
+    ensures { λ _. ⌜ now (out .exit) ≡ laid (within (now (out .entry)) (kindReply (message .kind) device store message (now (payload .entry)))) (now (out .entry)) ⌝ }
+{
+    let kind = message.kind;
+    match kind {
+        Kind::Telecommand => command_reply(device, store, message, payload, out),
+        Kind::TelecommandAck => silence(device),
+        Kind::TelecommandNack => silence(device),
+        Kind::TelemetryRequest => telemetry_reply(device, message, out),
+        Kind::TelemetryResponse => silence(device),
+        Kind::TelemetryNack => silence(device),
+        Kind::Event => silence(device),
+    }
+}
+
+fn command_reply(
+    device: Device,
+    store: usize,
+    message: Message,
+    payload: &[u8],
+    out: &mut [u8],
+) -> Received
+    ensures { λ r. ⌜ receiveTold (r .outcome) (r .device) ≡ counted (within (now (out .entry)) (commandReply device message (now (payload .entry)) (commandFault device store (message .id) (now (payload .entry))))) ⌝ }
+    ensures { λ r. ⌜ r .device ≡ afterReceive device (within (now (out .entry)) (commandReply device message (now (payload .entry)) (commandFault device store (message .id) (now (payload .entry))))) ⌝ }
+    ensures { λ _. ⌜ now (out .exit) ≡ laid (within (now (out .entry)) (commandReply device message (now (payload .entry)) (commandFault device store (message .id) (now (payload .entry))))) (now (out .entry)) ⌝ }
+{
+    match command::command_fault(device, store, message.id, payload) {
+        Fault::None => {
+            let next = command::command_done(device, message.id, payload);
+            let answer = answer_to(device, message, Kind::TelecommandAck, 0, 0);
+            send(device, next, answer, &[], out)
+        }
+        Fault::Nack(error, index) => {
+            let answer = answer_to(device, message, Kind::TelecommandNack, error, index);
+            send(device, device, answer, &[], out)
+        }
+    }
+}
+
+fn telemetry_reply(device: Device, message: Message, out: &mut [u8]) -> Received
+    ensures { λ r. ⌜ receiveTold (r .outcome) (r .device) ≡ counted (within (now (out .entry)) (telemetryReply device message)) ⌝ }
+    ensures { λ r. ⌜ r .device ≡ afterReceive device (within (now (out .entry)) (telemetryReply device message)) ⌝ }
+    ensures { λ _. ⌜ now (out .exit) ≡ laid (within (now (out .entry)) (telemetryReply device message)) (now (out .entry)) ⌝ }
+{
+    if message.id == 150 {
+        let info = info_bytes(device);
+        let answer = answer_to(device, message, Kind::TelemetryResponse, 0, 0);
+        return send(device, device, answer, &info, out);
+    }
+    let answer = answer_to(device, message, Kind::TelemetryNack, 1, 0);
+    send(device, device, answer, &[], out)
+}
+
+// Writes an answer, with the unit as it is before and after it.
+fn send(before: Device, next: Device, answer: Message, payload: &[u8], out: &mut [u8]) -> Received
+    ensures { λ r. ⌜ receiveTold (r .outcome) (r .device) ≡ counted (within (now (out .entry)) (answered next (linkWrite (before .link) answer (now (payload .entry))))) ⌝ }
+    ensures { λ r. ⌜ r .device ≡ afterReceive before (within (now (out .entry)) (answered next (linkWrite (before .link) answer (now (payload .entry))))) ⌝ }
+    ensures { λ _. ⌜ now (out .exit) ≡ laid (within (now (out .entry)) (answered next (linkWrite (before .link) answer (now (payload .entry))))) (now (out .entry)) ⌝ }
+{
+    let link = before.link;
+    match link::write(link, answer, payload, out) {
+        WriteAnswer::Length(n) => Received {
+            device: next,
+            outcome: Outcome::Answer(n),
+        },
+        WriteAnswer::Refused(refusal) => Received {
+            device: before,
+            outcome: Outcome::Refused(refusal),
+        },
+    }
+}
+
+// The answer to a request: of a kind, with an error byte and an index.
+fn answer_to(device: Device, request: Message, kind: Kind, error: u8, index: u8) -> Message
+    ensures { λ r. ⌜ r ≡ answerTo device request kind error index ⌝ }
+{
+    let link = device.link;
+    Message {
+        kind,
+        id: request.id,
+        source: answer_source(link, device.own, request),
+        destination: request.source,
+        error: ErrorByte::Told(error),
+        index,
+    }
+}
+
+fn answer_source(link: Link, own: u8, request: Message) -> u8
+    ensures { λ r. ⌜ r ≡ answerSource link own request ⌝ }
+{
+    match link {
+        Link::Uart => request.destination,
+        Link::Rs485 => own,
+        Link::Can => request.destination,
+        Link::Csp => request.destination,
+    }
+}
+
+// Number, size and checksum of the buffered frame, and the flags.
+fn info_bytes(device: Device) -> [u8; 7]
+    ensures { λ r. ⌜ r ≡ infoBytes device ⌝ }
+{
+    let buffer = device.buffer;
+    let length = device.frame_length();
+    let number = little_endian::u16_to_bytes(device.number);
+    let size = little_endian::u16_to_bytes(length as u16);
+    let sum = little_endian::u16_to_bytes(checksum::checksum(&buffer[..length]));
+    let phase = device.phase;
+    [
+        number[0],
+        number[1],
+        size[0],
+        size[1],
+        sum[0],
+        sum[1],
+        phase.is_finished() as u8,
+    ]
+}
