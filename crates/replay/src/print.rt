@@ -1,4 +1,6 @@
 // What replay prints.
+use device::Device;
+use device::Phase;
 use digits::HexAnswer;
 use libc::STDOUT_FILENO;
 use message::ErrorByte;
@@ -15,19 +17,54 @@ pub fn decimal(n: usize) {
 }
 
 // ` N`, a number behind another word.
-fn next(n: u8) {
+pub fn number(n: usize) {
     text(b" ");
-    decimal(n as usize);
+    decimal(n);
 }
 
-// ` OUT` and the line's end: a lent output, whole.
+fn next(n: u8) {
+    number(n as usize);
+}
+
+// ` OUT`: a lent output, whole.
 pub fn output(out: &[u8]) {
-    let mut space = [0u8; 2048];
     text(b" ");
-    if let HexAnswer::Length(n) = digits::write_hex(out, &mut space) {
+    bytes(out);
+}
+
+// A byte string, of at most 4,096 bytes.
+pub fn bytes(bytes: &[u8]) {
+    let mut space = [0u8; 8192];
+    if let HexAnswer::Length(n) = digits::write_hex(bytes, &mut space) {
         text(crate::input::front(&space, n));
     }
+}
+
+pub fn end_line() {
     text(b"\n");
+}
+
+// ` PHASE NUMBER BUFFERED CHECKSUM PENDING STORED SIZE` of a unit, and the line's end.
+pub fn unit(unit: Device) {
+    let phase = unit.phase;
+    match phase {
+        Phase::Idle => text(b" idle"),
+        Phase::Open => text(b" open"),
+        Phase::Finished => text(b" finished"),
+    }
+    number(unit.number as usize);
+    let buffer = unit.buffer;
+    let frame = crate::input::front(&buffer, unit.buffered as usize);
+    number(frame.len());
+    number(checksum::checksum(frame) as usize);
+    if unit.pending {
+        number(1);
+    } else {
+        number(0);
+    }
+    number(unit.stored as usize);
+    number(unit.size as usize);
+    end_line();
 }
 
 pub fn bad_line() {

@@ -5,13 +5,19 @@ use Rattle.replay.proofs.main.Statement.{statement}
 use Rattle.replay.proofs.main.Tie as tie
 
 abbrev Inv-loop : tie.InvT-loop
-Inv-loop buffer₀ have₀ beyond₀ turns₀ buffer have beyond turns = Unit
+Inv-loop buffer₀ have₀ store₀ kept₀ beyond₀ turns₀ buffer have store kept beyond turns = Unit
 
 abbrev μ-loop : tie.MeasureT-loop
-μ-loop buffer₀ have₀ beyond₀ turns₀ buffer have beyond turns = 0x7FFF_FFFF_FFFF_FFFF - turns
+μ-loop buffer₀ have₀ store₀ kept₀ beyond₀ turns₀ buffer have store kept beyond turns = 0x7FFF_FFFF_FFFF_FFFF - turns
 
 slice-aggregate-buffer : tie.Need-slice-aggregate-buffer Inv-loop μ-loop
 slice-aggregate-buffer c = search needs
+
+slice-aggregate-store : tie.Need-slice-aggregate-store Inv-loop μ-loop
+slice-aggregate-store c = search needs
+
+none-requires : tie.Need-none-requires Inv-loop μ-loop
+none-requires c κs = search needs
 
 loop-holds : tie.Need-loop-holds Inv-loop μ-loop
 loop-holds c = search needs
@@ -74,6 +80,8 @@ main-spec =
     Inv-loop
     μ-loop
     slice-aggregate-buffer
+    slice-aggregate-store
+    none-requires
     loop-holds
     add-turns
     front-requires
