@@ -1,6 +1,5 @@
 mod Buffers
 mod Payloads
 mod Faults
-mod Readings
 mod Replies
 mod Works

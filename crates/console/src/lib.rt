@@ -1,0 +1,13 @@
+// Puts the library's calls on text lines: a script has one call to a line, and each line is answered by one. The programs `replay` and
+// `replay_vectors` are thin over it.
+mod call;
+mod input;
+mod keep;
+mod print;
+mod rounds;
+mod runner;
+mod sending;
+mod unit;
+mod word;
+
+pub use runner::run;

@@ -1,0 +1,73 @@
+// The request of a round.
+ghost use mathlib.Core.Path.{_≡_};
+ghost use Rattle.message.specs.Answer.{within, counted, laid};
+ghost use Rattle.link.specs.Link.{linkWrite};
+ghost use Rattle.little_endian.specs.LittleEndian.{toBytes};
+ghost use Rattle.upload.specs.Sender.{asked, request, requestMessage, requestPayload, requestTold};
+use crate::lent;
+use crate::stages;
+use link::Link;
+use message::ErrorByte;
+use message::Message;
+use message::Refusal;
+use message::WriteAnswer;
+use upload::RequestAnswer;
+use upload::Sender;
+use upload::Stage;
+
+// Writes the request of the sender's stage to the start of out. It changes nothing of the sender.
+pub fn request(sender: Sender, file: &[u8], out: &mut [u8]) -> RequestAnswer
+    ensures { λ r. ⌜ requestTold r ≡ counted (within (now (out .entry)) (request sender (now (file .entry)))) ⌝ }
+    ensures { λ _. ⌜ now (out .exit) ≡ laid (within (now (out .entry)) (request sender (now (file .entry)))) (now (out .entry)) ⌝ }
+{
+    let state = sender.state;
+    if !stages::is_running(state) {
+        return RequestAnswer::Nothing;
+    }
+    if !lent::same_file(sender, file) {
+        return RequestAnswer::Refused(Refusal::IllegalFileSize);
+    }
+    let link = sender.link;
+    let stage = sender.stage;
+    let number = little_endian::u32_to_bytes(sender.frame);
+    let payload = request_payload(stage, file, sender.frame, &number[..2]);
+    send(link, request_message(sender), payload, out)
+}
+
+fn request_message(sender: Sender) -> Message
+    ensures { λ r. ⌜ r ≡ requestMessage sender ⌝ }
+{
+    let stage = sender.stage;
+    Message {
+        kind: stages::request_kind(stage),
+        id: stages::request_id(stage),
+        source: sender.source,
+        destination: sender.destination,
+        error: ErrorByte::Told(0),
+        index: 0,
+    }
+}
+
+// What the request of a stage carries; number is the frame's in two bytes.
+fn request_payload<'a>(stage: Stage, file: &'a [u8], frame: u32, number: &'a [u8]) -> &'a [u8]
+    requires { ⌜ now number ≡ toBytes 2 frame ⌝ }
+    ensures { λ r. ⌜ now r ≡ requestPayload stage (now (file .entry)) frame ⌝ }
+{
+    match stage {
+        Stage::Frame => lent::frame_bytes(file, frame),
+        Stage::Back => lent::frame_bytes(file, frame),
+        Stage::Compare => &file[..0],
+        Stage::Take => number,
+        Stage::Confirm => &file[..0],
+    }
+}
+
+fn send(link: Link, message: Message, payload: &[u8], out: &mut [u8]) -> RequestAnswer
+    ensures { λ r. ⌜ requestTold r ≡ counted (within (now (out .entry)) (asked (linkWrite link message (now (payload .entry))))) ⌝ }
+    ensures { λ _. ⌜ now (out .exit) ≡ laid (within (now (out .entry)) (asked (linkWrite link message (now (payload .entry))))) (now (out .entry)) ⌝ }
+{
+    match link::write(link, message, payload, out) {
+        WriteAnswer::Length(n) => RequestAnswer::Request(n),
+        WriteAnswer::Refused(refusal) => RequestAnswer::Refused(refusal),
+    }
+}

@@ -1,0 +1,43 @@
+// Starting a sender.
+ghost use mathlib.Core.Path.{_≡_};
+ghost use Rattle.upload.specs.Sender.{addressesLegal, start, startTold};
+use link::Link;
+use message::Refusal;
+use upload::Sender;
+use upload::Stage;
+use upload::StartAnswer;
+use upload::State;
+
+// A sender at first, for a file of this length.
+pub fn start(link: Link, source: u8, destination: u8, length: u32) -> StartAnswer
+    ensures { λ r. ⌜ startTold r ≡ start link source destination length ⌝ }
+{
+    if !file::size_legal(length as usize) {
+        return StartAnswer::Refused(Refusal::IllegalFileSize);
+    }
+    if !addresses_legal(link, source, destination) {
+        return StartAnswer::Refused(Refusal::IllegalValue);
+    }
+    StartAnswer::Sender(Sender {
+        link,
+        source,
+        destination,
+        length,
+        frame: 0,
+        stage: Stage::Frame,
+        since: 0,
+        rounds: 0,
+        state: State::Running,
+    })
+}
+
+fn addresses_legal(link: Link, source: u8, destination: u8) -> bool
+    ensures { λ r. ⌜ r ≡ addressesLegal link source destination ⌝ }
+{
+    match link {
+        Link::Uart => true,
+        Link::Rs485 => 0 < source && 0 < destination,
+        Link::Can => true,
+        Link::Csp => true,
+    }
+}
