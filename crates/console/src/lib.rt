@@ -4,6 +4,7 @@ mod call;
 mod input;
 mod keep;
 mod print;
+mod recorded;
 mod rounds;
 mod runner;
 mod sending;
