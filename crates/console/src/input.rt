@@ -1,7 +1,7 @@
 // A script in a buffer: the bytes that are not yet taken lie at its start.
 
 // Where the first line ends: at its LF, or at the end of what there is.
-pub fn line_end(bytes: &[u8]) -> usize {
+pub(crate) fn line_end(bytes: &[u8]) -> usize {
     let mut i = 0;
     while i < bytes.len() {
         if bytes[i] == b'\n' {
@@ -13,7 +13,7 @@ pub fn line_end(bytes: &[u8]) -> usize {
 }
 
 // The first n bytes, or all where there are fewer.
-pub fn front(buffer: &[u8], n: usize) -> &[u8] {
+pub(crate) fn front(buffer: &[u8], n: usize) -> &[u8] {
     if n <= buffer.len() {
         return &buffer[..n];
     }
@@ -21,7 +21,7 @@ pub fn front(buffer: &[u8], n: usize) -> &[u8] {
 }
 
 // Drops a line that ends before `have`, with its LF: what follows moves to the start. Answers how many bytes that is.
-pub fn drop_line(buffer: &mut [u8], end: usize, have: usize) -> usize {
+pub(crate) fn drop_line(buffer: &mut [u8], end: usize, have: usize) -> usize {
     if buffer.len() < have {
         return 0;
     }
@@ -39,7 +39,7 @@ pub fn drop_line(buffer: &mut [u8], end: usize, have: usize) -> usize {
 }
 
 // Reads on behind the bytes that are there. Answers how many there are then: no more at the input's end.
-pub fn read_on(script: i32, buffer: &mut [u8], have: usize) -> usize {
+pub(crate) fn read_on(script: i32, buffer: &mut [u8], have: usize) -> usize {
     if buffer.len() <= have {
         return have;
     }

@@ -17,7 +17,7 @@ pub struct Kept {
 }
 
 // At first there is no unit and no sender, and the file is empty.
-pub fn none() -> Kept {
+pub(crate) fn none() -> Kept {
     let made = device::make(Link::Uart, 1);
     let unit = made.device;
     let sender = Sender {
@@ -41,7 +41,7 @@ pub fn none() -> Kept {
     }
 }
 
-pub fn with_unit(kept: Kept, unit: Device, store: usize) -> Kept {
+pub(crate) fn with_unit(kept: Kept, unit: Device, store: usize) -> Kept {
     let mut next = kept;
     next.made = true;
     next.unit = unit;
@@ -49,14 +49,14 @@ pub fn with_unit(kept: Kept, unit: Device, store: usize) -> Kept {
     next
 }
 
-pub fn with_sender(kept: Kept, sender: Sender) -> Kept {
+pub(crate) fn with_sender(kept: Kept, sender: Sender) -> Kept {
     let mut next = kept;
     next.started = true;
     next.sender = sender;
     next
 }
 
-pub fn with_file(kept: Kept, file: usize) -> Kept {
+pub(crate) fn with_file(kept: Kept, file: usize) -> Kept {
     let mut next = kept;
     next.file = file;
     next

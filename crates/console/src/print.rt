@@ -11,16 +11,16 @@ use upload::Sender;
 use upload::Stage;
 use upload::State;
 
-pub fn text(bytes: &[u8]) {
+pub(crate) fn text(bytes: &[u8]) {
     io::write_all(STDOUT_FILENO, bytes);
 }
 
-pub fn decimal(n: usize) {
+pub(crate) fn decimal(n: usize) {
     io::print_decimal(STDOUT_FILENO, n as u64);
 }
 
 // ` N`, a number behind another word.
-pub fn number(n: usize) {
+pub(crate) fn number(n: usize) {
     text(b" ");
     decimal(n);
 }
@@ -30,25 +30,25 @@ fn next(n: u8) {
 }
 
 // ` OUT`: a lent output, whole.
-pub fn output(out: &[u8]) {
+pub(crate) fn output(out: &[u8]) {
     text(b" ");
     bytes(out);
 }
 
 // A byte string, of at most 4,096 bytes.
-pub fn bytes(bytes: &[u8]) {
+pub(crate) fn bytes(bytes: &[u8]) {
     let mut space = [0u8; 8192];
     if let HexAnswer::Length(n) = digits::write_hex(bytes, &mut space) {
         text(crate::input::front(&space, n));
     }
 }
 
-pub fn end_line() {
+pub(crate) fn end_line() {
     text(b"\n");
 }
 
 // ` PHASE NUMBER BUFFERED CHECKSUM PENDING STORED SIZE` of a unit.
-pub fn unit(unit: Device) {
+pub(crate) fn unit(unit: Device) {
     let phase = unit.phase;
     match phase {
         Phase::Idle => text(b" idle"),
@@ -70,7 +70,7 @@ pub fn unit(unit: Device) {
 }
 
 // ` STATE STAGE FRAME SINCE ROUNDS KNOWN` of a sender.
-pub fn sender(sender: Sender) {
+pub(crate) fn sender(sender: Sender) {
     let state = sender.state;
     match state {
         State::Running => running(sender),
@@ -96,17 +96,17 @@ fn running(sender: Sender) {
     number(sender.since as usize);
 }
 
-pub fn bad_line() {
+pub(crate) fn bad_line() {
     text(b"bad line\n");
 }
 
-pub fn refused(refusal: Refusal) {
+pub(crate) fn refused(refusal: Refusal) {
     text(b"refused");
     next(refusal.number());
 }
 
 // `KIND ID SOURCE DESTINATION ERROR INDEX LENGTH`.
-pub fn message(message: Message, length: usize) {
+pub(crate) fn message(message: Message, length: usize) {
     let kind = message.kind;
     kind_name(kind);
     next(message.id);

@@ -9,7 +9,7 @@ use records::CanFrame;
 const MOST_RECORDS: u32 = 64;
 
 // records COUNT KIND ID SOURCE DESTINATION ERROR INDEX PAYLOAD
-pub fn records(line: &[u8]) {
+pub(crate) fn records(line: &[u8]) {
     let mut payload = [0u8; 8192];
     if words::word_count(line) != 9 {
         crate::print::bad_line();

@@ -28,7 +28,7 @@ struct Arrived {
 }
 
 // round WORK FATE
-pub fn round(line: &[u8], kept: Kept, store: &mut [u8], file: &[u8]) -> Kept {
+pub(crate) fn round(line: &[u8], kept: Kept, store: &mut [u8], file: &[u8]) -> Kept {
     if words::word_count(line) != 3 {
         crate::print::bad_line();
         return kept;

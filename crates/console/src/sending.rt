@@ -11,7 +11,7 @@ use upload::RequestAnswer;
 use upload::StartAnswer;
 
 // file BYTES
-pub fn file(line: &[u8], kept: Kept, file: &mut [u8]) -> Kept {
+pub(crate) fn file(line: &[u8], kept: Kept, file: &mut [u8]) -> Kept {
     let mut bytes = [0u8; 8192];
     if words::word_count(line) != 2 {
         crate::print::bad_line();
@@ -31,7 +31,7 @@ pub fn file(line: &[u8], kept: Kept, file: &mut [u8]) -> Kept {
 }
 
 // sender LINK SOURCE DESTINATION LENGTH
-pub fn sender(line: &[u8], kept: Kept) -> Kept {
+pub(crate) fn sender(line: &[u8], kept: Kept) -> Kept {
     if words::word_count(line) != 5 {
         crate::print::bad_line();
         return kept;
@@ -71,7 +71,7 @@ pub fn sender(line: &[u8], kept: Kept) -> Kept {
 }
 
 // request OUTLEN
-pub fn request(line: &[u8], kept: Kept, file: &[u8]) {
+pub(crate) fn request(line: &[u8], kept: Kept, file: &[u8]) {
     let mut space = [0xA5u8; 1024];
     if words::word_count(line) != 2 {
         crate::print::bad_line();
@@ -103,7 +103,7 @@ pub fn request(line: &[u8], kept: Kept, file: &[u8]) {
 }
 
 // answer BYTES
-pub fn answer(line: &[u8], kept: Kept, file: &[u8]) -> Kept {
+pub(crate) fn answer(line: &[u8], kept: Kept, file: &[u8]) -> Kept {
     let mut bytes = [0u8; 8192];
     if words::word_count(line) != 2 {
         crate::print::bad_line();

@@ -19,7 +19,7 @@ enum StoreWord {
 }
 
 // unit LINK OWN STORELEN
-pub fn unit(line: &[u8], kept: Kept, store: &mut [u8]) -> Kept {
+pub(crate) fn unit(line: &[u8], kept: Kept, store: &mut [u8]) -> Kept {
     if words::word_count(line) != 4 {
         crate::print::bad_line();
         return kept;
@@ -78,7 +78,7 @@ fn store_word(line: &[u8], at: usize) -> StoreWord {
 }
 
 // receive OUTLEN BYTES, or receive OUTLEN BYTES STORELEN
-pub fn receive(line: &[u8], kept: Kept, store: &mut [u8]) -> Kept {
+pub(crate) fn receive(line: &[u8], kept: Kept, store: &mut [u8]) -> Kept {
     let mut bytes = [0u8; 8192];
     let mut space = [0xA5u8; 1024];
     let count = words::word_count(line);
@@ -136,7 +136,7 @@ fn arrives(bytes: &[u8], kept: Kept, store: &[u8], out: &mut [u8]) -> Kept {
 }
 
 // work, or work STORELEN
-pub fn work(line: &[u8], kept: Kept, store: &mut [u8]) -> Kept {
+pub(crate) fn work(line: &[u8], kept: Kept, store: &mut [u8]) -> Kept {
     let count = words::word_count(line);
     if count != 1 && count != 2 {
         crate::print::bad_line();
@@ -180,7 +180,7 @@ fn works(kept: Kept, store: &mut [u8]) -> Kept {
 }
 
 // store
-pub fn store(line: &[u8], kept: Kept, store: &[u8]) {
+pub(crate) fn store(line: &[u8], kept: Kept, store: &[u8]) {
     if words::word_count(line) != 1 {
         crate::print::bad_line();
         return;

@@ -25,7 +25,7 @@ pub enum MessageWords {
     Bad,
 }
 
-pub fn link_word(word: &[u8]) -> LinkWord {
+pub(crate) fn link_word(word: &[u8]) -> LinkWord {
     if check::same(word, b"uart") {
         return LinkWord::Known(Link::Uart);
     }
@@ -42,7 +42,7 @@ pub fn link_word(word: &[u8]) -> LinkWord {
 }
 
 // KIND ID SOURCE DESTINATION ERROR INDEX, from word 2 on.
-pub fn message_words(line: &[u8]) -> MessageWords {
+pub(crate) fn message_words(line: &[u8]) -> MessageWords {
     let KindWord::Known(kind) = kind_word(words::word(line, 2)) else {
         return MessageWords::Bad;
     };
@@ -72,7 +72,7 @@ pub fn message_words(line: &[u8]) -> MessageWords {
 }
 
 // A number that was read as at most 255.
-pub fn byte(n: u32) -> u8 {
+pub(crate) fn byte(n: u32) -> u8 {
     (n % 256) as u8
 }
 
