@@ -19,7 +19,10 @@ use Rattle.link.specs.declared.Link.{Link}
 use Rattle.device.specs.Answers.{afterReceive}
 use Rattle.device.specs.Device.{newDevice}
 use Rattle.device.specs.Receive.{receive}
-use Rattle.upload.specs.Schedule.{Fate, deliver, loseAnswer, Round, output, scheduled}
+use Rattle.upload.specs.Schedule.{output, scheduled}
+use Rattle.upload.specs.declared.Fate.{Fate}
+use Rattle.upload.specs.declared.Fate.the-variants as Fate·of
+use Rattle.upload.specs.declared.Round.{Round}
 use Rattle.upload.specs.Sender.{newSender, framesKnown}
 use Rattle.upload.specs.World.{World, shared, works, asks, arrives, does, run, bytesOr}
 use Rattle.upload.specs.declared.State.the-variants.{Finished}
@@ -70,12 +73,12 @@ afterRounds l rs = run file (opened l) (scheduled file (opened l) rs)
 -- P11: "300 bytes, nothing lost, work always done: 2 frames, 8 rounds, finished."
 abbrev pub NothingLost : Link → Type 0
 NothingLost l =
-    let w = afterRounds l (replicate 8 (worked deliver)) in
+    let w = afterRounds l (replicate 8 (worked Fate·of.Delivered)) in
     (framesKnown (w .sender) ≡ 2) × (w .sender .rounds ≡ 8) × (w .sender .state ≡ Finished) × (w .store ≡ stored)
 
 -- P12: "same file, last take-frame answer lost": so far the unit has taken the frame; then the work step, and the sender asks again.
 unfoldable pub askedAgain : Link → World
-askedAgain l = run file (afterRounds l (replicate 6 (worked deliver) ++ (worked loseAnswer ∷ []))) (works shared ∷ asks shared output ∷ [])
+askedAgain l = run file (afterRounds l (replicate 6 (worked Fate·of.Delivered) ++ (worked Fate·of.AnswerLost ∷ []))) (works shared ∷ asks shared output ∷ [])
 
 -- "The repeat after the work step gets nack 3, store unchanged." On CAN the nack does not tell its number.
 abbrev pub AnswerLost : Link → Type 0

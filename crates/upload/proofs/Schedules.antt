@@ -17,7 +17,10 @@ use Rattle.upload.specs.Round.{hear}
 use Rattle.upload.specs.Sender.{isRunning, checked, sameFile, request}
 use Rattle.upload.specs.Sender as sent
 use Rattle.upload.specs.Legal.{Place, begun, asked, arrived, repeated, between, Legal, stops, workDone, requestMade, requestArrives, requestRepeats, delivered, requestLost, answerLost, twice}
-use Rattle.upload.specs.Schedule.{Fate, deliver, loseRequest, loseAnswer, double, Round, comesBack, isGood, goods, output, exchange, requested, roundCalls, scheduled, Realised, EverySchedule}
+use Rattle.upload.specs.Schedule.{comesBack, isGood, goods, output, exchange, requested, roundCalls, scheduled, Realised, EverySchedule}
+use Rattle.upload.specs.declared.Fate.{Fate}
+use Rattle.upload.specs.declared.Fate.the-variants.{Delivered, RequestLost, AnswerLost, Twice}
+use Rattle.upload.specs.declared.Round.{Round}
 use Rattle.upload.specs.Stored.{Mark, waiting}
 use Rattle.upload.specs.World.{World, shared, lent, Call, works, asks, arrives, hears, does, run, isRefusal, isRefused}
 use Rattle.upload.proofs.Arriving.{arrivedBuffer, arrival}
@@ -86,10 +89,10 @@ module _ (u : Upload) where
   exchanged : (f : Fate) (d : Bool) (w : World) (past : List Bool) (marks : ℕ → Mark) → Running· u (asked d) w past marks
       → (past′ : List Bool) × ((marks′ : ℕ → Mark) × Invariant u (run (u .file) w (exchange (u .file) w f)) past′ marks′ between)
   unfolding run exchange does
-  exchanged deliver d w past marks h = let g = one d w past marks h in (_, (_, keeps-delivered u _ past _ (arrived d) d g (g .place .2) (hears-free u _ past _ (arrived d) g _)))
-  exchanged loseRequest d w past marks h = (_, (_, keeps-lost u w past marks (asked d) h (hears-free u w past marks (asked d) h [])))
-  exchanged loseAnswer d w past marks h = let g = one d w past marks h in (_, (_, keeps-lost u _ past _ (arrived d) g (hears-free u _ past _ (arrived d) g [])))
-  exchanged double d w past marks h =
+  exchanged Delivered d w past marks h = let g = one d w past marks h in (_, (_, keeps-delivered u _ past _ (arrived d) d g (g .place .2) (hears-free u _ past _ (arrived d) g _)))
+  exchanged RequestLost d w past marks h = (_, (_, keeps-lost u w past marks (asked d) h (hears-free u w past marks (asked d) h [])))
+  exchanged AnswerLost d w past marks h = let g = one d w past marks h in (_, (_, keeps-lost u _ past _ (arrived d) g (hears-free u _ past _ (arrived d) g [])))
+  exchanged Twice d w past marks h =
       let g = two d _ past _ (one d w past marks h) in
       (_, (_, keeps-delivered u _ past _ (repeated d) d g (g .place .2) (hears-free u _ past _ (repeated d) g _)))
 
@@ -97,14 +100,14 @@ module _ (u : Upload) where
   exchange-legal : (f : Fate) (d : Bool) (w : World) (past : List Bool) (marks : ℕ → Mark) → Running· u (asked d) w past marks → (rest : List Call) (rounds : List Bool)
       → Legal (u .file) (run (u .file) w (exchange (u .file) w f)) between rest rounds → Legal (u .file) w (asked d) (exchange (u .file) w f ++ rest) ((d && comesBack f) ∷ rounds)
   unfolding run exchange does
-  exchange-legal deliver d w past marks h rest rounds r =
+  exchange-legal Delivered d w past marks h rest rounds r =
       let g = one d w past marks h in
       rw (both-ways d .0) (requestArrives (arrives-free u w past marks (asked d) h d (h .place .0) (h .place .1)) (delivered (hears-free u _ past _ (arrived d) g _) r))
-  exchange-legal loseRequest d w past marks h rest rounds r = rw (both-ways d .1) (requestLost (hears-free u w past marks (asked d) h []) r)
-  exchange-legal loseAnswer d w past marks h rest rounds r =
+  exchange-legal RequestLost d w past marks h rest rounds r = rw (both-ways d .1) (requestLost (hears-free u w past marks (asked d) h []) r)
+  exchange-legal AnswerLost d w past marks h rest rounds r =
       let g = one d w past marks h in
       rw (both-ways d .1) (requestArrives (arrives-free u w past marks (asked d) h d (h .place .0) (h .place .1)) (answerLost (hears-free u _ past _ (arrived d) g []) r))
-  exchange-legal double d w past marks h rest rounds r =
+  exchange-legal Twice d w past marks h rest rounds r =
       let g = one d w past marks h in
       let k = two d _ past _ g in
       rw (both-ways d .0)

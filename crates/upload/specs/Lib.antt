@@ -5,3 +5,4 @@ pub mod Legal
 pub mod Stored
 pub mod Demand
 pub mod Schedule
+pub mod Rounds

@@ -7,26 +7,18 @@ use lib.ListN.{replicate}
 use Rattle.upload.specs.Sender.{isRunning}
 use Rattle.upload.specs.Demand.{Start}
 use Rattle.upload.specs.Legal.{between, Legal}
+use Rattle.upload.specs.declared.Fate.{Fate}
+use Rattle.upload.specs.declared.Fate.the-variants.{Delivered, RequestLost, AnswerLost, Twice}
+use Rattle.upload.specs.declared.Round.{Round}
 use Rattle.upload.specs.World.{World, shared, Call, works, asks, arrives, hears, does, run}
 
--- "One exchange: delivered, request lost, answer lost, or request arriving twice with the second answer delivered."
-pub data Fate : Type 0 where
-  deliver : Fate
-  loseRequest : Fate
-  loseAnswer : Fate
-  double : Fate
-
--- "A round is the unit's work step, done or not, then one exchange."
-pub record Round : Type 0 where
-  pub worked : Bool
-  pub fate : Fate
-
--- "A good round has the work step done and ends delivered or twice."
+-- "A round is the unit's work step, done or not, then one exchange: delivered, request lost, answer lost, or request arriving twice with
+-- the second answer delivered." "A good round has the work step done and ends delivered or twice."
 abbrev pub comesBack : Fate → Bool
-comesBack deliver = true
-comesBack loseRequest = false
-comesBack loseAnswer = false
-comesBack double = true
+comesBack Delivered = true
+comesBack RequestLost = false
+comesBack AnswerLost = false
+comesBack Twice = true
 
 unfoldable pub isGood : Round → Bool
 isGood r = r .worked && comesBack (r .fate)
@@ -41,10 +33,10 @@ output = replicate 522 0
 
 -- The calls of an exchange, once the request is written.
 unfoldable pub exchange : List ℕ → World → Fate → List Call
-exchange file w deliver = arrives (w .request) shared output ∷ hears shared (does file w (arrives (w .request) shared output) .answer) ∷ []
-exchange file w loseRequest = hears shared [] ∷ []
-exchange file w loseAnswer = arrives (w .request) shared output ∷ hears shared [] ∷ []
-exchange file w double =
+exchange file w Delivered = arrives (w .request) shared output ∷ hears shared (does file w (arrives (w .request) shared output) .answer) ∷ []
+exchange file w RequestLost = hears shared [] ∷ []
+exchange file w AnswerLost = arrives (w .request) shared output ∷ hears shared [] ∷ []
+exchange file w Twice =
     let arrival = arrives (w .request) shared output in
     arrival ∷ arrival ∷ hears shared (does file (does file w arrival) arrival .answer) ∷ []
 

@@ -44,6 +44,21 @@ pub struct Sender {
     pub state: State,
 }
 
+// What becomes of a round's exchange: the answer is delivered, or the request is lost, or its answer, or the request arrives twice and the
+// second answer is delivered.
+pub enum Fate {
+    Delivered,
+    RequestLost,
+    AnswerLost,
+    Twice,
+}
+
+// A round: the unit's work step, done or not, then one exchange.
+pub struct Round {
+    pub worked: bool,
+    pub fate: Fate,
+}
+
 // What an answer means to the sender at its stage.
 pub enum Meaning {
     // Any other answer, or none.
