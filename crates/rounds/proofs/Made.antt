@@ -1,0 +1,168 @@
+-- What calls make one after the other: a call that passes goes on with the next, and one that is refused ends them. Each part of a round
+-- is then its first call in front of the rest.
+use Prim.Native.Nat.{ℕ}
+use mathlib.Core.Bool.{true, false}
+use mathlib.Core.List.{List, [], _∷_}
+use lib.ListN.{length}
+use mathlib.Core.Path.{_≡_, refl, _∙_}
+use Rattle.message.specs.Answer.{Answer, refused, given, number, passed, failed, require, after, within, verdictTold}
+use Rattle.message.specs.declared.Refusal.{Refusal}
+use Rattle.message.specs.declared.Verdict.the-variants.{Passed, Refused}
+use Rattle.link.proofs.Laws.{no-bytes}
+use Rattle.device.specs.Answers.{afterReceive, afterWork}
+use Rattle.device.specs.Receive.{Reply, silent, messageReply, receive}
+use Rattle.device.specs.Work.{work, storeAfter}
+use Rattle.device.specs.declared.Device.{Device}
+use Rattle.upload.specs.Round.{hear}
+use Rattle.upload.specs.Rounds.{atRest, answerCheck, callCheck, choose, made, firstRefusal}
+use Rattle.upload.specs.Schedule.{output, exchange, requested, roundCalls}
+use Rattle.upload.specs.Sender.{Asked, isRunning, request}
+use Rattle.upload.specs.World.{World, shared, lent, kept, Call, works, asks, arrives, hears, bytesOr, senderOr, does}
+use Rattle.upload.specs.declared.Fate.{Fate}
+use Rattle.upload.specs.declared.Fate.the-variants.{Delivered, RequestLost, AnswerLost, Twice}
+use Rattle.upload.specs.declared.Round.{Round}
+use Rattle.upload.specs.declared.Sender.{Sender}
+use Rattle.rounds.specs.declared.Rounded.{Rounded}
+use Rattle.rounds.specs.Ends.{asking, Ends}
+
+-- What a refused call leaves.
+abbrev pub Stopped : Rounded → Device → Sender → Refusal → Type 0
+Stopped r d s f = (r .device ≡ d) × (r .sender ≡ s) × (r .verdict ≡ Refused f)
+
+module _ (r : Rounded) (store file : List ℕ) (w : World) (c : Call) (h : List Call) where
+  -- A call that passes, in front of calls,
+  pub goes-on : callCheck file w c ≡ passed → Ends r store file (does file w c) h → Ends r store file w (c ∷ h)
+  unfolding made firstRefusal choose
+  goes-on e k = rw e k
+
+  -- and one that is refused.
+  pub ends-here : (f : Refusal) → callCheck file w c ≡ failed (number f) → Stopped r (w .device) (w .sender) f → store ≡ w .store → Ends r store file w (c ∷ h)
+  unfolding made firstRefusal choose verdictTold
+  ends-here f e k t = rw (e, k .2) (refl, k .0, k .1, t)
+
+-- What the sender's answer call leaves.
+abbrev pub Heard : Rounded → Device → Sender → List ℕ → List ℕ → Type 0
+Heard r d s file b = (verdictTold (r .verdict) ≡ answerCheck (hear s file b)) × (r .device ≡ d) × (r .sender ≡ senderOr s (hear s file b))
+
+-- It is the last call of a round.
+pub last-call : (r : Rounded) (file : List ℕ) (w : World) (b : List ℕ) → Heard r (w .device) (w .sender) file b → Ends r (w .store) file w (hears shared b ∷ [])
+unfolding made firstRefusal choose callCheck answerCheck does senderOr lent
+last-call r file w b h = by (hear (w .sender) file b) refl
+  where
+    by : (x : Answer Sender Unit) → hear (w .sender) file b ≡ x → Ends r (w .store) file w (hears shared b ∷ [])
+    by (refused n) e = rw e (rw e at (h .0), h .1, rw e at (h .2), refl)
+    by (given s u) e = rw e (rw e at (h .0), h .1, rw e at (h .2), refl)
+
+-- The exchange of a request that arrives.
+module _ (r : Rounded) (d : Device) (store : List ℕ) (s : Sender) (file rq : List ℕ) where
+  abbrev there : World
+  there = asking d store s rq
+
+  abbrev answer : Answer Reply (List ℕ)
+  answer = within output (receive d (length store) rq)
+
+  abbrev arrival : Call
+  arrival = arrives rq shared output
+
+  heard-next : (a : Reply) (x : List ℕ) → answer ≡ given a x → (b : List ℕ) → Heard r (afterReceive d answer) s file b → Ends r store file there (arrival ∷ hears shared b ∷ [])
+  unfolding callCheck answerCheck lent does
+  heard-next a x e b h = goes-on r store file there arrival _ (rw e) (last-call r file (does file there arrival) b h)
+
+  pub delivered-ends : (a : Reply) (x : List ℕ) → answer ≡ given a x → Heard r (afterReceive d answer) s file x → Ends r store file there (exchange file there Delivered)
+  unfolding exchange does lent bytesOr
+  delivered-ends a x e h = heard-next a x e (bytesOr [] answer) (rw e (rw e at h))
+
+  pub lost-ends : (a : Reply) (x : List ℕ) → answer ≡ given a x → Heard r (afterReceive d answer) s file [] → Ends r store file there (exchange file there AnswerLost)
+  unfolding exchange
+  lost-ends a x e h = heard-next a x e [] h
+
+  -- A refused arrival ends it.
+  pub stopped-ends : (f : Refusal) → answer ≡ refused (number f) → Stopped r (afterReceive d answer) s f → (h : List Call) → Ends r store file there (arrival ∷ h)
+  unfolding callCheck answerCheck lent afterReceive
+  stopped-ends f e k h = ends-here r store file there arrival h f (rw e) (rw e at k) refl
+
+-- What the unit answered before matters to nothing that follows.
+module _ (r : Rounded) (d : Device) (store : List ℕ) (s : Sender) (file rq b : List ℕ) where
+  abbrev after-first : World
+  after-first = record { device = d; store = store; sender = s; request = rq; answer = b }
+
+  pub forgets : Ends r store file (asking d store s rq) (exchange file (asking d store s rq) Delivered)
+      → Ends r store file after-first (arrival r d store s file rq ∷ hears shared (does file after-first (arrival r d store s file rq) .answer) ∷ [])
+  unfolding exchange made firstRefusal choose callCheck answerCheck does lent bytesOr senderOr afterReceive
+  forgets k = by (answer r d store s file rq) refl
+    where
+      by : (x : Answer Reply (List ℕ)) → answer r d store s file rq ≡ x
+          → Ends r store file after-first (arrival r d store s file rq ∷ hears shared (does file after-first (arrival r d store s file rq) .answer) ∷ [])
+      by (refused n) e = rw e (rw e at k)
+      by (given a x) e = heard (hear s file x) refl
+        where
+          heard : (y : Answer Sender Unit) → hear s file x ≡ y
+              → Ends r store file after-first (arrival r d store s file rq ∷ hears shared (does file after-first (arrival r d store s file rq) .answer) ∷ [])
+          heard (refused n) q = rw (e, q) (rw (e, q) at k)
+          heard (given t u) q = rw (e, q) (rw (e, q) at k)
+
+-- The request arrives again, at the unit that it left.
+pub twice-ends : (r : Rounded) (d : Device) (store : List ℕ) (s : Sender) (file rq : List ℕ) (a : Reply) (x : List ℕ) → answer r d store s file rq ≡ given a x → (next : Device)
+    → next ≡ afterReceive d (answer r d store s file rq) → Ends r store file (asking next store s rq) (exchange file (asking next store s rq) Delivered)
+    → Ends r store file (asking d store s rq) (exchange file (asking d store s rq) Twice)
+unfolding exchange callCheck answerCheck does lent
+twice-ends r d store s file rq a x e next n k = goes-on r store file (asking d store s rq) (arrival r d store s file rq) _ (rw e) (forgets r _ store s file rq _ (rw n at k))
+
+-- A sender that has ended: nothing is sent, so the unit hears nothing that it could read, and the sender stays as it is.
+module _ (r : Rounded) (d : Device) (store : List ℕ) (s : Sender) (file : List ℕ) (over : isRunning (s .state) ≡ false) (same : (r .device ≡ d) × (r .sender ≡ s) × (r .verdict ≡ Passed)) where
+  hears-none : (b : List ℕ) → hear s file b ≡ given s tt
+  unfolding hear
+  hears-none b = rw over
+
+  answers-none : answer r d store s file [] ≡ given (silent d) []
+  unfolding within receive messageReply after require
+  answers-none = rw (no-bytes (d .link))
+
+  stays : (b : List ℕ) → Heard r (afterReceive d (answer r d store s file [])) s file b
+  unfolding answerCheck senderOr verdictTold afterReceive
+  stays b = rw (hears-none b, answers-none, same .2) (refl, same .0, same .1)
+
+  delivers-none : Ends r store file (asking d store s []) (exchange file (asking d store s []) Delivered)
+  delivers-none = delivered-ends r d store s file [] (silent d) [] answers-none (stays [])
+
+  pub ended : (f : Fate) → Ends r store file (asking d store s []) (exchange file (asking d store s []) f)
+  unfolding exchange afterReceive
+  ended Delivered = delivers-none
+  ended RequestLost = last-call r file (asking d store s []) [] (rw answers-none at (stays []))
+  ended AnswerLost = lost-ends r d store s file [] (silent d) [] answers-none (stays [])
+  ended Twice = twice-ends r d store s file [] (silent d) [] answers-none d (rw answers-none) delivers-none
+
+-- The sender's request in front of the exchange.
+module _ (r : Rounded) (d : Device) (store : List ℕ) (s : Sender) (file : List ℕ) (f : Fate) where
+  pub requested-ends : (a : Asked) (x : List ℕ) → within output (request s file) ≡ given a x → Ends r store file (asking d store s x) (exchange file (asking d store s x) f)
+      → Ends r store file (atRest d store s) (requested file (atRest d store s) f)
+  unfolding requested callCheck answerCheck does lent bytesOr
+  requested-ends a x e k = goes-on r store file (atRest d store s) (asks shared output) _ (rw e) (rw e k)
+
+  pub requested-stopped : (g : Refusal) → within output (request s file) ≡ refused (number g) → Stopped r d s g → Ends r store file (atRest d store s) (requested file (atRest d store s) f)
+  unfolding requested callCheck answerCheck lent
+  requested-stopped g e k = ends-here r store file (atRest d store s) (asks shared output) _ g (rw e) k refl
+
+-- The work step in front of the request.
+module _ (r : Rounded) (d : Device) (store : List ℕ) (s : Sender) (file : List ℕ) (f : Fate) (left : List ℕ) (left-is : left ≡ storeAfter d (work d (length store)) store) where
+  abbrev calls : List Call
+  calls = works shared ∷ requested file (does file (atRest d store s) (works shared)) f
+
+  pub worked-ends : answerCheck (work d (length store)) ≡ passed → (next : Device) → next ≡ afterWork d (work d (length store))
+      → Ends r left file (atRest next left s) (requested file (atRest next left s) f) → Ends r left file (atRest d store s) calls
+  unfolding callCheck does lent kept
+  worked-ends e next n k = rw left-is (goes-on r _ file (atRest d store s) (works shared) _ e (rw (n, left-is) at k))
+
+  pub worked-stopped : (g : Refusal) → work d (length store) ≡ refused (number g) → Stopped r (afterWork d (work d (length store))) s g → Ends r left file (atRest d store s) calls
+  unfolding callCheck answerCheck lent storeAfter afterWork
+  worked-stopped g e k = ends-here r left file (atRest d store s) (works shared) _ g (rw e) (rw e at k) (left-is ∙ rw e)
+
+-- A round by its work step.
+module _ (r : Rounded) (store file : List ℕ) (w : World) (round : Round) where
+  pub round-rest : round .worked ≡ false → Ends r store file w (requested file w (round .fate)) → Ends r store file w (roundCalls file w round)
+  unfolding roundCalls
+  round-rest e k = rw e k
+
+  pub round-work : round .worked ≡ true → Ends r store file w (works shared ∷ requested file (does file w (works shared)) (round .fate)) → Ends r store file w (roundCalls file w round)
+  unfolding roundCalls
+  round-work e k = rw e k

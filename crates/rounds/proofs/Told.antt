@@ -1,0 +1,126 @@
+-- What a call told, and what lies in the array that it was lent, give back the answer of its definition.
+use Prim.Native.Nat.{ℕ, _≤_}
+use mathlib.Core.Bool.{Bool, true, false}
+use mathlib.Core.List.{List, [], _∷_}
+use mathlib.Core.Path.{_≡_, refl, sym, _∙_, ap}
+use native.Mathlib.Omega.{arith}
+use lib.Dec.{leb}
+use lib.ListN.{length, take, drop, length-append}
+use lib.Seq.{take-at}
+use Rattle.message.specs.Answer.{Answer, Check, refused, given, number, passed, failed, require, after, within, counted, laid}
+use Rattle.message.specs.declared.Refusal.{Refusal}
+use Rattle.message.specs.declared.Verdict.{Verdict}
+use Rattle.message.specs.declared.Verdict.the-variants as Verdict·of
+use Rattle.device.specs.Answers.{stepTold, receiveTold}
+use Rattle.device.specs.Receive.{answers, silent, receive}
+use Rattle.device.specs.Work.{worked}
+use Rattle.device.specs.declared.Device.{Device}
+use Rattle.device.specs.declared.Outcome.{Outcome}
+use Rattle.device.specs.declared.Outcome.the-variants as Outcome·of
+use Rattle.upload.specs.Rounds.{answerCheck}
+use Rattle.upload.specs.Schedule.{output}
+use Rattle.upload.specs.Sender.{asks, nothing, asked, isRunning, request, requestTold}
+use Rattle.upload.specs.declared.RequestAnswer.{RequestAnswer}
+use Rattle.upload.specs.declared.RequestAnswer.the-variants as RequestAnswer·of
+use Rattle.upload.specs.declared.Sender.{Sender}
+
+module _ {A : Type 0} (x : Answer A (List ℕ)) where
+  pub counted-refused : (n : ℕ) → counted x ≡ refused n → x ≡ refused n
+  unfolding counted
+  counted-refused n e = by x refl
+    where
+      by : (y : Answer A (List ℕ)) → x ≡ y → x ≡ refused n
+      by (refused k) q = q ∙ cc (rw q at e)
+      by (given a b) q = absurd (let z : _≡_ {A = ℕ} 0 1 = cc (rw q at e) in omega arith)
+
+  -- The bytes at the start of the output.
+  pub counted-given : (out left : List ℕ) → left ≡ laid x out → (a : A) (n : ℕ) → counted x ≡ given a n → (x ≡ given a (take n left)) × (n ≤ length left)
+  unfolding counted laid
+  counted-given out left laid-is a n e = by x refl
+    where
+      by : (y : Answer A (List ℕ)) → x ≡ y → (x ≡ given a (take n left)) × (n ≤ length left)
+      by (refused k) q = absurd (let z : _≡_ {A = ℕ} 0 1 = cc (rw q at e) in omega arith)
+      by (given a′ b) q =
+          let same : given a′ (length b) ≡ given a n = rw q at e in
+          let size : length b ≡ n = cc in
+          let lies = rw q at laid-is in
+          (q ∙ cc (rw (take-at b (drop (length b) out) n size) at (ap (take n) lies)), rw (lies, length-append) (omega arith))
+
+  pub counted-empty : (a : A) → counted x ≡ given a 0 → x ≡ given a []
+  unfolding counted
+  counted-empty a e = by x refl
+    where
+      by : (y : Answer A (List ℕ)) → x ≡ y → x ≡ given a []
+      by (refused k) q = absurd (let z : _≡_ {A = ℕ} 0 1 = cc (rw q at e) in omega arith)
+      by (given a′ []) q = q ∙ cc (rw q at e)
+      by (given a′ (b ∷ bs)) q =
+          let same : given a′ (length (b ∷ bs)) ≡ given a 0 = rw q at e in
+          let size : length (b ∷ bs) ≡ 0 = cc in
+          absurd (omega arith)
+
+-- A sender that has nothing to send has ended.
+asked-something : (c : Check) (x : Answer Unit (List ℕ)) (out b : List ℕ) → within out (after c (asked x)) ≡ given nothing b → ⊥
+unfolding within after asked require
+asked-something (failed n) x out b e = let z : _≡_ {A = ℕ} 0 1 = cc in omega arith
+asked-something passed (refused n) out b e = let z : _≡_ {A = ℕ} 0 1 = cc in omega arith
+asked-something passed (given u y) out b e = by (leb (length y) (length out)) refl
+  where
+    by : (t : Bool) → leb (length y) (length out) ≡ t → ⊥
+    by true q = let z : _≡_ {A = ℕ} 0 1 = cc (rw q at e) in omega arith
+    by false q = let z : _≡_ {A = ℕ} 0 1 = cc (rw q at e) in omega arith
+
+pub nothing-ended : (s : Sender) (file out b : List ℕ) → within out (request s file) ≡ given nothing b → isRunning (s .state) ≡ false
+unfolding request
+nothing-ended s file out b e = by (isRunning (s .state)) refl
+  where
+    by : (t : Bool) → isRunning (s .state) ≡ t → isRunning (s .state) ≡ false
+    by true q = absurd (asked-something _ _ out b (rw q at e))
+    by false q = q
+
+-- What the unit made of a request.
+module _ (d : Device) (n : ℕ) (rq : List ℕ) (o : Outcome) (next : Device) (told : receiveTold o next ≡ counted (within output (receive d n rq))) where
+  pub answered : (left : List ℕ) → left ≡ laid (within output (receive d n rq)) output → (k : ℕ) → o ≡ Outcome·of.Answer k
+      → (within output (receive d n rq) ≡ given (answers next) (take k left)) × (k ≤ length left)
+  unfolding receiveTold
+  answered left lies k e = counted-given _ output left lies (answers next) k (rw e at (sym told))
+
+  pub was-silent : o ≡ Outcome·of.Silent → within output (receive d n rq) ≡ given (silent next) []
+  unfolding receiveTold
+  was-silent e = counted-empty _ (silent next) (rw e at (sym told))
+
+  pub was-refused : (f : Refusal) → o ≡ Outcome·of.Refused f → within output (receive d n rq) ≡ refused (number f)
+  unfolding receiveTold
+  was-refused f e = counted-refused _ (number f) (rw e at (sym told))
+
+-- What the sender wrote.
+module _ (s : Sender) (file : List ℕ) (o : RequestAnswer) (told : requestTold o ≡ counted (within output (request s file))) where
+  pub wrote : (left : List ℕ) → left ≡ laid (within output (request s file)) output → (k : ℕ) → o ≡ RequestAnswer·of.Request k
+      → (within output (request s file) ≡ given asks (take k left)) × (k ≤ length left)
+  unfolding requestTold
+  wrote left lies k e = counted-given _ output left lies asks k (rw e at (sym told))
+
+  pub wrote-nothing : o ≡ RequestAnswer·of.Nothing → within output (request s file) ≡ given nothing []
+  unfolding requestTold
+  wrote-nothing e = counted-empty _ nothing (rw e at (sym told))
+
+  pub not-written : (f : Refusal) → o ≡ RequestAnswer·of.Refused f → within output (request s file) ≡ refused (number f)
+  unfolding requestTold
+  not-written f e = counted-refused _ (number f) (rw e at (sym told))
+
+-- What a work step told.
+module _ (x : Answer Device (List ℕ)) (v : Verdict) (next : Device) (told : stepTold v next ≡ worked x) where
+  pub stepped : v ≡ Verdict·of.Passed → answerCheck x ≡ passed
+  unfolding stepTold worked answerCheck
+  stepped e = by x refl
+    where
+      by : (y : Answer Device (List ℕ)) → x ≡ y → answerCheck x ≡ passed
+      by (refused n) q = absurd (let z : _≡_ {A = ℕ} 0 1 = cc (rw (e, q) at told) in omega arith)
+      by (given a b) q = rw q
+
+  pub not-stepped : (f : Refusal) → v ≡ Verdict·of.Refused f → x ≡ refused (number f)
+  unfolding stepTold worked
+  not-stepped f e = by x refl
+    where
+      by : (y : Answer Device (List ℕ)) → x ≡ y → x ≡ refused (number f)
+      by (refused n) q = q ∙ cc (rw (e, q) at told)
+      by (given a b) q = absurd (let z : _≡_ {A = ℕ} 0 1 = cc (rw (e, q) at told) in omega arith)

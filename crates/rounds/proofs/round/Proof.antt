@@ -1,0 +1,74 @@
+-- Carried by the work step, done or not, in front of the request.
+use borrow.Author.Needs.{needs}
+use borrow.Author.Tests.{not-true, not-false}
+use Rattle.upload.specs.Rounds.{roundMade, roundRefusal}
+use Rattle.rounds.proofs.Made.{worked-ends, worked-stopped, round-rest, round-work}
+use Rattle.rounds.proofs.Told.{stepped, not-stepped}
+use Rattle.rounds.proofs.round.Statement.{statement}
+use Rattle.rounds.proofs.round.Tie as tie
+
+requested-requires : tie.Need-requested-requires
+requested-requires c κs = search needs
+
+same-length : tie.Need-same-length
+same-length c = search needs
+
+returns : tie.Need-returns
+unfolding roundMade roundRefusal
+returns c =
+    let k = round-rest _ _ _ _ _ (not-true _ (c .before .before .if1 .taken)) (c .requested .ensures) in
+    (k .0, (k .1, (k .2, k .3)))
+
+work-requires : tie.Need-work-requires
+work-requires c κs = search needs
+
+enum-told : tie.Need-enum-told
+enum-told c = search needs
+
+requested-requires-2 : tie.Need-requested-requires-2
+requested-requires-2 c κs = search needs
+
+enum-known-verdict : tie.Need-enum-known-verdict
+enum-known-verdict c = search needs
+
+stopped-requires : tie.Need-stopped-requires
+stopped-requires c κs = search needs
+
+same-length-2 : tie.Need-same-length-2
+same-length-2 c = search needs
+
+returns-2 : tie.Need-returns-2
+unfolding roundMade roundRefusal
+returns-2 c =
+    let e = c .before .before .before .before .before .before .before .work .ensures in
+    let p = stepped _ _ _ (e .0) (c .before .before .enum-told .given .1) in
+    let k = round-work _ _ _ _ _ (not-false _ (c .before .before .before .before .before .before .before .before .before .if1 .left)) (worked-ends _ _ _ _ _ _ _ (e .1 .1) p _ (e .1 .0) (c .requested2 .ensures)) in
+    (k .0, (k .1, (k .2, k .3)))
+
+same-length-3 : tie.Need-same-length-3
+same-length-3 c = search needs
+
+returns-3 : tie.Need-returns-3
+unfolding roundMade roundRefusal
+returns-3 c =
+    let e = c .before .before .before .before .before .before .before .work .ensures in
+    let g = not-stepped _ _ _ (e .0) _ (c .before .before .verdict .given .1) in
+    let k = round-work _ _ _ _ _ (not-false _ (c .before .before .before .before .before .before .before .before .before .if1 .left)) (worked-stopped _ _ _ _ _ _ _ (e .1 .1) _ g (rw (e .1 .0) at (c .stopped .ensures))) in
+    (k .0, (k .1, (k .2, k .3)))
+
+pub round-spec : {M : Type 1} → statement M
+round-spec =
+    tie.close
+    (tie.spec
+    requested-requires
+    same-length
+    returns
+    work-requires
+    enum-told
+    requested-requires-2
+    enum-known-verdict
+    stopped-requires
+    same-length-2
+    returns-2
+    same-length-3
+    returns-3)

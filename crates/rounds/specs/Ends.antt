@@ -1,0 +1,19 @@
+-- What the parts of a round are promised to leave (document 01, "The sender and its rounds").
+use Prim.Native.Nat.{ℕ}
+use mathlib.Core.List.{List, []}
+use mathlib.Core.Path.{_≡_}
+use Rattle.message.specs.Answer.{verdictTold}
+use Rattle.device.specs.declared.Device.{Device}
+use Rattle.upload.specs.Rounds.{made, firstRefusal}
+use Rattle.upload.specs.World.{World, Call}
+use Rattle.upload.specs.declared.Sender.{Sender}
+use Rattle.rounds.specs.declared.Rounded.{Rounded}
+
+-- Unit, store and sender, with a request that the sender has written.
+abbrev pub asking : Device → List ℕ → Sender → List ℕ → World
+asking d store s b = record { device = d; store = store; sender = s; request = b; answer = [] }
+
+-- What is left is what the calls make, and the refusal is the first of theirs.
+abbrev pub Ends : Rounded → List ℕ → List ℕ → World → List Call → Type 0
+Ends r store file w h =
+    (verdictTold (r .verdict) ≡ firstRefusal file w h) × (r .device ≡ made file w h .device) × (r .sender ≡ made file w h .sender) × (store ≡ made file w h .store)

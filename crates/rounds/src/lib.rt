@@ -1,0 +1,53 @@
+// One round between a sender and a unit (document 01, "The sender and its rounds"): the work step, done or not, then one exchange, by the
+// calls of the crates `device` and `sender`. A program that has both sides, as a test or a rehearsal on the ground, runs an upload with it.
+//
+// What a round comes to is `roundMade` and `roundRefusal` of upload's `specs/Rounds.antt`, over the calls that demand 3 is proved of.
+mod exchange;
+
+ghost use mathlib.Core.Path.{_≡_};
+ghost use Rattle.message.specs.Answer.{verdictTold};
+ghost use Rattle.upload.specs.Rounds.{atRest, roundMade, roundRefusal};
+use device::Device;
+use message::Refusal;
+use message::Verdict;
+use upload::Round;
+use upload::Sender;
+
+// What a round leaves: unit and sender, and whether each of its calls passed. The first that is refused ends the round, and what the calls
+// before it did stays.
+pub struct Rounded {
+    pub device: Device,
+    pub sender: Sender,
+    pub verdict: Verdict,
+}
+
+// Runs a round with the unit's store and the sender's file.
+pub fn round(device: Device, sender: Sender, round: Round, file: &[u8], store: &mut [u8]) -> Rounded
+    ensures { λ r. ⌜ verdictTold (r .verdict) ≡ roundRefusal (now (file .entry)) (atRest device (now (store .entry)) sender) round ⌝ }
+    ensures { λ r. ⌜ r .device ≡ roundMade (now (file .entry)) (atRest device (now (store .entry)) sender) round .device ⌝ }
+    ensures { λ r. ⌜ r .sender ≡ roundMade (now (file .entry)) (atRest device (now (store .entry)) sender) round .sender ⌝ }
+    ensures { λ _. ⌜ now (store .exit) ≡ roundMade (now (file .entry)) (atRest device (now (store .entry)) sender) round .store ⌝ }
+{
+    let fate = round.fate;
+    if !round.worked {
+        return exchange::requested(device, sender, fate, file, store);
+    }
+    let stepped = device::work(device, store);
+    let unit = stepped.device;
+    let verdict = stepped.verdict;
+    match verdict {
+        Verdict::Passed => exchange::requested(unit, sender, fate, file, store),
+        Verdict::Refused(refusal) => stopped(unit, sender, refusal),
+    }
+}
+
+// A round that a refused call ended.
+pub(crate) fn stopped(device: Device, sender: Sender, refusal: Refusal) -> Rounded
+    ensures { λ r. ⌜ (r .device ≡ device) × (r .sender ≡ sender) × (r .verdict ≡ Verdict.Refused refusal) ⌝ }
+{
+    Rounded {
+        device,
+        sender,
+        verdict: Verdict::Refused(refusal),
+    }
+}
