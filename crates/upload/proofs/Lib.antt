@@ -14,3 +14,4 @@ pub mod Keeps
 pub mod Begin
 pub mod Demand
 pub mod Schedules
+pub mod Runs

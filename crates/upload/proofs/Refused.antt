@@ -46,5 +46,5 @@ pub refused-leaves : (file : List ℕ) (w : World) (c : Call) → isRefused file
 unfolding isRefused does
 refused-leaves file w (works l) e = let g = work-leaves (w .device) (w .store) l (workAnswer w l) e in simp (g .0, g .1)
 refused-leaves file w (asks l out) e = rw (bytes-leave (w .request) (askAnswer file w l out) e)
-refused-leaves file w (arrives b l out) e = rw (reply-leaves (w .device) (arriveAnswer w b l out) e, bytes-leave (w .answer) (arriveAnswer w b l out) e)
+refused-leaves file w (arrives b l out) e = simp (reply-leaves (w .device) (arriveAnswer w b l out) e, bytes-leave (w .answer) (arriveAnswer w b l out) e)
 refused-leaves file w (hears l b) e = rw (hear-leaves (w .sender) (hearAnswer file w l b) e)

@@ -43,28 +43,28 @@ unfolding within after require isRefusal
 fits-output l x a b e h = rw (e, le-leb (length b) (length output) (omega (arith, h, most-bytes l, length-replicate {A = ℕ} 522 0)))
 
 module _ (u : Upload) (w : World) (past : List Bool) (marks : ℕ → Mark) (p : Place) (h : Running· u p w past marks) where
-  works-free : isRefused (u .file) w (works shared) ≡ false
+  pub works-free : isRefused (u .file) w (works shared) ≡ false
   unfolding isRefused lent
   works-free = work-free u (h .row .stored) (h .row .buffer) (w .device) (w .store) marks (h .row .unit)
 
-  asks-free : isRefused (u .file) w (asks shared output) ≡ false
+  pub asks-free : isRefused (u .file) w (asks shared output) ≡ false
   unfolding isRefused lent
   asks-free =
       let b = asks-bytes u (w .sender) (h .row .stage) (h .row .frame) (h .since) (length past) (h .sends) in
       fits-output (u .link) (request (w .sender) (u .file)) sent.asks (b .0) (b .1) (b .2)
 
-  arrives-free : (d : Bool) → Quiet d (h .row .stage) (h .row .buffer) → Asked u w (h .row .stage) (h .row .frame) → isRefused (u .file) w (arrives (w .request) shared output) ≡ false
+  pub arrives-free : (d : Bool) → Quiet d (h .row .stage) (h .row .buffer) → Asked u w (h .row .stage) (h .row .frame) → isRefused (u .file) w (arrives (w .request) shared output) ≡ false
   unfolding isRefused lent
   arrives-free d quiet request =
       let a = arrival u (w .request) (h .row .frame) (h .since) (length past) (length (w .store)) (h .course .below) d (h .row .stage) (h .row .buffer) (h .row .stored) (h .row .unit .buffer) (h .row .unit .buffered) request (h .row .stands) quiet (h .row .unit .holding) in
       let unit : Device = unitAt (u .link) (u .own) (length (u .file)) (h .row .stored) (a .buffer) (a .buffered) (isPending (arrivedBuffer (h .row .stage) (h .row .buffer))) in
       fits-output (u .link) (receive (w .device) (length (w .store)) (w .request)) (answers unit) (a .serves .bytes) (rw (h .row .unit .device) (a .serves .gives)) (a .serves .short)
 
-  hears-free : (b : List ℕ) → isRefused (u .file) w (hears shared b) ≡ false
+  pub hears-free : (b : List ℕ) → isRefused (u .file) w (hears shared b) ≡ false
   unfolding isRefused lent hear sameFile checked isRefusal require
   hears-free b = rw (h .sends, eq-eqb (length (u .file)) (length (u .file)) refl)
 
-run-append : (file : List ℕ) (w : World) (a b : List Call) → run file w (a ++ b) ≡ run file (run file w a) b
+pub run-append : (file : List ℕ) (w : World) (a b : List Call) → run file w (a ++ b) ≡ run file (run file w a) b
 unfolding run
 run-append file w [] b = refl
 run-append file w (c ∷ a) b = run-append file (does file w c) a b
@@ -79,10 +79,10 @@ module _ (u : Upload) where
 
   -- The request arrives, and arrives again.
   module _ (d : Bool) (w : World) (past : List Bool) (marks : ℕ → Mark) where
-    one : Running· u (asked d) w past marks → Running· u (arrived d) (does (u .file) w (arrival-of w)) past (marksAfter (u .file) w (arrival-of w) marks)
+    pub one : Running· u (asked d) w past marks → Running· u (arrived d) (does (u .file) w (arrival-of w)) past (marksAfter (u .file) w (arrival-of w) marks)
     one h = keeps-arrive u w past marks (asked d) d output h (h .place .0) (h .place .1) (arrives-free u w past marks (asked d) h d (h .place .0) (h .place .1))
 
-    two : Running· u (arrived d) w past marks → Running· u (repeated d) (does (u .file) w (arrival-of w)) past (marksAfter (u .file) w (arrival-of w) marks)
+    pub two : Running· u (arrived d) w past marks → Running· u (repeated d) (does (u .file) w (arrival-of w)) past (marksAfter (u .file) w (arrival-of w) marks)
     two h = again u _ past _ d (keeps-arrive u w past marks (arrived d) d output h (h .place .0) (h .place .1) (arrives-free u w past marks (arrived d) h d (h .place .0) (h .place .1)))
 
   -- An exchange, from the written request on: where it leads,
@@ -117,7 +117,7 @@ module _ (u : Upload) where
 
   -- The request in front of it,
   module _ (f : Fate) (d : Bool) (w : World) (past : List Bool) (marks : ℕ → Mark) (h : Running· u (begun d) w past marks) where
-    asks-one : Running· u (asked d) (does (u .file) w (asks shared output)) past (marksAfter (u .file) w (asks shared output) marks)
+    pub asks-one : Running· u (asked d) (does (u .file) w (asks shared output)) past (marksAfter (u .file) w (asks shared output) marks)
     asks-one = keeps-ask u w past marks d output (asks-free u w past marks (begun d) h) h
 
     requested-at : (past′ : List Bool) × ((marks′ : ℕ → Mark) × Invariant u (run (u .file) w (requested (u .file) w f)) past′ marks′ between)
@@ -131,10 +131,10 @@ module _ (u : Upload) where
 
   -- and the work step, done or not.
   module _ (w : World) (past : List Bool) (marks : ℕ → Mark) (h : Running· u between w past marks) where
-    works-one : Running· u (begun true) (does (u .file) w (works shared)) past (marksAfter (u .file) w (works shared) marks)
+    pub works-one : Running· u (begun true) (does (u .file) w (works shared)) past (marksAfter (u .file) w (works shared) marks)
     works-one = keeps-work u w past marks (works-free u w past marks between h) h
 
-    round-at : (r : Round) → (past′ : List Bool) × ((marks′ : ℕ → Mark) × Invariant u (run (u .file) w (roundCalls (u .file) w r)) past′ marks′ between)
+    pub round-at : (r : Round) → (past′ : List Bool) × ((marks′ : ℕ → Mark) × Invariant u (run (u .file) w (roundCalls (u .file) w r)) past′ marks′ between)
     unfolding run roundCalls
     round-at r = by (r .worked) refl
       where

@@ -1,11 +1,15 @@
 -- A round as it is run (document 01, "The sender and its rounds"): its calls one after the other, up to the first that is refused, since of
 -- a refused call "nothing moves" and none of them "is a round".
 use Prim.Native.Nat.{ℕ}
+use mathlib.Core.Bool.{cond}
 use mathlib.Core.List.{List, [], _∷_}
+use mathlib.Core.Path.{_≡_}
 use Rattle.message.specs.Answer.{Answer, Check, refused, given, passed, failed}
 use Rattle.device.specs.declared.Device.{Device}
-use Rattle.upload.specs.Schedule.{roundCalls}
-use Rattle.upload.specs.World.{World, Call, works, asks, arrives, hears, workAnswer, askAnswer, arriveAnswer, hearAnswer, does}
+use Rattle.upload.specs.Demand.{Start}
+use Rattle.upload.specs.Schedule.{roundCalls, scheduled}
+use Rattle.upload.specs.Sender.{isRunning}
+use Rattle.upload.specs.World.{World, Call, works, asks, arrives, hears, workAnswer, askAnswer, arriveAnswer, hearAnswer, does, run}
 use Rattle.upload.specs.declared.Round.{Round}
 use Rattle.upload.specs.declared.Sender.{Sender}
 
@@ -43,3 +47,25 @@ roundMade file w r = made file w (roundCalls file w r)
 
 unfoldable pub roundRefusal : List ℕ → World → Round → Check
 roundRefusal file w r = firstRefusal file w (roundCalls file w r)
+
+-- Rounds one after the other until the sender ends, each with unit, store and sender as the last left them, and the first refusal among them.
+unfoldable pub roundsMade : List ℕ → World → List Round → World
+roundsMade file w [] = w
+roundsMade file w (r ∷ rs) = cond (isRunning (w .sender .state)) (roundsMade file (roundMade file (atRest (w .device) (w .store) (w .sender)) r) rs) w
+
+unfoldable pub roundsRefusal : List ℕ → World → List Round → Check
+roundsRefusal file w [] = passed
+roundsRefusal file w (r ∷ rs) =
+    let v = atRest (w .device) (w .store) (w .sender) in
+    cond (isRunning (w .sender .state)) (choose (roundRefusal file v r) (roundsRefusal file (roundMade file v r) rs) (roundRefusal file v r)) passed
+
+-- The same unit, store and sender.
+pub record Same (v w : World) : Type 0 where
+  pub device : v .device ≡ w .device
+  pub store : v .store ≡ w .store
+  pub sender : v .sender ≡ w .sender
+
+-- After an accepted setup no round is refused, and rounds that are run so make what demand 3 says of their calls.
+abbrev pub EveryRun : Type 0
+EveryRun =
+    (file : List ℕ) (w : World) → Start file w → (rs : List Round) → (roundsRefusal file w rs ≡ passed) × Same (roundsMade file w rs) (run file w (scheduled file w rs))
