@@ -3,7 +3,7 @@
 use Prim.Native.Nat.{ℕ}
 use mathlib.Core.List.{List, [], _∷_}
 use Rattle.message.specs.Answer.{Answer, Check, refused, given, passed, failed}
-use Rattle.device.specs.declared.Device.{Device}
+use Rattle.device_state.specs.declared.Device.{Device}
 use Rattle.upload.specs.Schedule.{roundCalls}
 use Rattle.upload.specs.World.{World, Call, works, asks, arrives, hears, workAnswer, askAnswer, arriveAnswer, hearAnswer, does}
 use Rattle.upload.specs.declared.Round.{Round}
