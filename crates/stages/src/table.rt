@@ -1,0 +1,41 @@
+// The table of the stages.
+ghost use mathlib.Core.Path.{_≡_};
+ghost use Rattle.upload.specs.Round.{nextStage, isLastStage, isStep};
+use upload::Stage;
+
+pub(crate) fn next_stage(stage: Stage) -> Stage
+    ensures { λ r. ⌜ r ≡ nextStage stage ⌝ }
+{
+    match stage {
+        Stage::Frame => Stage::Compare,
+        Stage::Back => Stage::Compare,
+        Stage::Compare => Stage::Take,
+        Stage::Take => Stage::Confirm,
+        Stage::Confirm => Stage::Frame,
+    }
+}
+
+pub(crate) fn is_last_stage(stage: Stage) -> bool
+    ensures { λ r. ⌜ r ≡ isLastStage stage ⌝ }
+{
+    match stage {
+        Stage::Frame => false,
+        Stage::Back => false,
+        Stage::Compare => false,
+        Stage::Take => false,
+        Stage::Confirm => true,
+    }
+}
+
+// The arrival behind this stage is the first one: only A again leads to a B that was arrived at before.
+pub(crate) fn is_step(stage: Stage) -> bool
+    ensures { λ r. ⌜ r ≡ isStep stage ⌝ }
+{
+    match stage {
+        Stage::Frame => true,
+        Stage::Back => false,
+        Stage::Compare => true,
+        Stage::Take => true,
+        Stage::Confirm => true,
+    }
+}
