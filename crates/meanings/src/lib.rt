@@ -4,30 +4,18 @@ mod info;
 ghost use mathlib.Core.Bool.{cond};
 ghost use mathlib.Core.Path.{_≡_};
 ghost use Rattle.message.specs.Answer.{given};
-ghost use Rattle.link.specs.Link.{linkRead, carriesAddresses};
+ghost use Rattle.link.specs.Link.{carriesAddresses};
 ghost use Rattle.upload.specs.Round.{fits, takenError, ackMeaning, nackMeaning, meaning};
 use link::Link;
 use message::ErrorByte;
 use message::Kind;
 use message::Message;
-use message::ReadAnswer;
 use upload::Meaning;
 use upload::Sender;
 use upload::Stage;
 
-// Of the answer's bytes, none where there was no answer.
-pub fn meaning(sender: Sender, file: &[u8], answer: &[u8]) -> Meaning
-    ensures { λ r. ⌜ r ≡ meaning sender (now (file .entry)) (linkRead (sender .link) (now (answer .entry))) ⌝ }
-{
-    let link = sender.link;
-    let mut payload = [0u8; 256];
-    let ReadAnswer::Message(message, length) = link::read(link, answer, &mut payload) else {
-        return Meaning::Stay;
-    };
-    message_meaning(sender, file, message, &payload[..length])
-}
-
-fn message_meaning(sender: Sender, file: &[u8], message: Message, payload: &[u8]) -> Meaning
+// Of a message that was read as the answer.
+pub fn message_meaning(sender: Sender, file: &[u8], message: Message, payload: &[u8]) -> Meaning
     ensures { λ r. ⌜ r ≡ meaning sender (now (file .entry)) (given message (now (payload .entry))) ⌝ }
 {
     if !fits(sender, message) {

@@ -1,9 +1,12 @@
 // The answer of a round.
 ghost use mathlib.Core.Path.{_≡_};
-ghost use Rattle.upload.specs.Round.{hear, hearTold};
+ghost use Rattle.link.specs.Link.{linkRead};
+ghost use Rattle.upload.specs.Round.{meaning, hear, hearTold};
 use crate::checks;
+use message::ReadAnswer;
 use message::Refusal;
 use upload::HearAnswer;
+use upload::Meaning;
 use upload::Sender;
 
 // Takes the answer's bytes, none where there was no answer, and counts the round.
@@ -17,5 +20,17 @@ pub fn hear(sender: Sender, file: &[u8], answer: &[u8]) -> HearAnswer
     if !checks::same_file(sender, file) {
         return HearAnswer::Refused(Refusal::IllegalFileSize);
     }
-    HearAnswer::Sender(stages::round_over(sender, meanings::meaning(sender, file, answer)))
+    HearAnswer::Sender(stages::round_over(sender, meaning(sender, file, answer)))
+}
+
+// What the answer's bytes mean, none where there was no answer.
+fn meaning(sender: Sender, file: &[u8], answer: &[u8]) -> Meaning
+    ensures { λ r. ⌜ r ≡ meaning sender (now (file .entry)) (linkRead (sender .link) (now (answer .entry))) ⌝ }
+{
+    let link = sender.link;
+    let mut payload = [0u8; 256];
+    let ReadAnswer::Message(message, length) = link::read(link, answer, &mut payload) else {
+        return Meaning::Stay;
+    };
+    meanings::message_meaning(sender, file, message, &payload[..length])
 }

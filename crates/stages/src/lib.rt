@@ -2,7 +2,7 @@
 mod table;
 
 ghost use mathlib.Core.Path.{_≡_};
-ghost use Rattle.upload.specs.Round.{changed, waited, advanced, roundOver};
+ghost use Rattle.upload.specs.Round.{isStep, changed, waited, advanced, roundOver};
 use upload::Meaning;
 use upload::Sender;
 use upload::Stage;
@@ -25,10 +25,23 @@ fn forward(sender: Sender) -> Sender
     ensures { λ r. ⌜ r ≡ roundOver sender Meaning.Forward ⌝ }
 {
     let stage = sender.stage;
-    if table::is_step(stage) {
+    if is_step(stage) {
         return advanced(sender);
     }
     waited(sender, table::next_stage(stage))
+}
+
+// The arrival behind this stage is the first one: only A again leads to a B that was arrived at before.
+fn is_step(stage: Stage) -> bool
+    ensures { λ r. ⌜ r ≡ isStep stage ⌝ }
+{
+    match stage {
+        Stage::Frame => true,
+        Stage::Back => false,
+        Stage::Compare => true,
+        Stage::Take => true,
+        Stage::Confirm => true,
+    }
 }
 
 // A round without a step forward; the fiftieth in a row is the last.

@@ -1,6 +1,6 @@
 // The table of the stages.
 ghost use mathlib.Core.Path.{_≡_};
-ghost use Rattle.upload.specs.Round.{nextStage, isLastStage, isStep};
+ghost use Rattle.upload.specs.Round.{nextStage, isLastStage};
 use upload::Stage;
 
 pub(crate) fn next_stage(stage: Stage) -> Stage
@@ -23,19 +23,6 @@ pub(crate) fn is_last_stage(stage: Stage) -> bool
         Stage::Back => false,
         Stage::Compare => false,
         Stage::Take => false,
-        Stage::Confirm => true,
-    }
-}
-
-// The arrival behind this stage is the first one: only A again leads to a B that was arrived at before.
-pub(crate) fn is_step(stage: Stage) -> bool
-    ensures { λ r. ⌜ r ≡ isStep stage ⌝ }
-{
-    match stage {
-        Stage::Frame => true,
-        Stage::Back => false,
-        Stage::Compare => true,
-        Stage::Take => true,
         Stage::Confirm => true,
     }
 }

@@ -4,8 +4,8 @@ use borrow.Author.Needs.{needs}
 use lib.Seq.{length-take-le}
 use Rattle.link.proofs.Reading.{unreadable, readable}
 use Rattle.upload.specs.Round.{meaning}
-use Rattle.meanings.proofs.meaning.Statement.{statement}
-use Rattle.meanings.proofs.meaning.Tie as tie
+use Rattle.sender.proofs.hearer.meaning.Statement.{statement}
+use Rattle.sender.proofs.hearer.meaning.Tie as tie
 
 slice-aggregate-read : tie.Need-slice-aggregate-read
 slice-aggregate-read c = search needs
