@@ -1,5 +1,1 @@
-mod Buffers
-mod Payloads
-mod Faults
 mod Replies
-mod Works

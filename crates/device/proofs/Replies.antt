@@ -14,12 +14,11 @@ use Rattle.message.specs.declared.Refusal.{Refusal}
 use Rattle.message.specs.declared.WriteAnswer.the-variants as WriteAnswer·of
 use Rattle.message.proofs.Answers.{long-enough}
 use Rattle.link.specs.Link.{linkRead, linkWrite}
+use Rattle.device_state.specs.declared.Device.{Device}
+use Rattle.faults.specs.declared.Fault.{Fault}
+use Rattle.commands.specs.Commands.{afterCommand}
 use Rattle.device.specs.Answers.{receiveTold, afterReceive}
-use Rattle.device.specs.Commands.{commandDone}
-use Rattle.device.specs.Receive.{Reply, answers, silent, answered, answerTo, commandReply, isTaken, silence, kindReply, messageReply, receive}
-use Rattle.device.specs.declared.Device.{Device}
-use Rattle.device.specs.declared.Fault.{Fault}
-use Rattle.device.specs.declared.Fault.the-variants as Fault·of
+use Rattle.device.specs.Receive.{Reply, answers, silent, answered, commandAnswer, commandReply, isTaken, silence, kindReply, messageReply, receive}
 use Rattle.device.specs.declared.Outcome.the-variants as Outcome·of
 use Rattle.device.specs.declared.Received.{Received}
 
@@ -49,17 +48,11 @@ pub message-reply : (d : Device) (store : ℕ) (b : List ℕ) (m : Message) (p :
 unfolding receive messageReply
 message-reply d store b m p t e q = rw (e, q)
 
--- A command by its fault.
-module _ (d : Device) (m : Message) (p : List ℕ) (f : Fault) (answer : Message) where
-  pub ack-reply : (next : Device) → f ≡ Fault·of.None → next ≡ commandDone d (m .id) p → answer ≡ answerTo d m Kind·of.TelecommandAck 0 0
-      → commandReply d m p f ≡ answered next (linkWrite (d .link) answer [])
-  unfolding commandReply
-  ack-reply next e done same = rw (e, done, same)
-
-  pub nack-reply : (error index : ℕ) → f ≡ Fault·of.Nack error index → answer ≡ answerTo d m Kind·of.TelecommandNack error index
-      → commandReply d m p f ≡ answered d (linkWrite (d .link) answer [])
-  unfolding commandReply
-  nack-reply error index e same = rw (e, same)
+-- A command by its fault, with the unit and the answer that it comes to.
+pub command-reply : (d : Device) (m : Message) (p : List ℕ) (f f′ : Fault) (next : Device) (answer : Message) → f′ ≡ f → next ≡ afterCommand d (m .id) p f
+    → answer ≡ commandAnswer d m f′ → commandReply d m p f ≡ answered next (linkWrite (d .link) answer [])
+unfolding commandReply
+command-reply d m p f f′ next answer e done same = rw (done, same, e)
 
 -- The output's 8 comes before or after the unit is told with the bytes, all the same.
 within-answered : (d : Device) (out : List ℕ) (x : Answer Unit (List ℕ)) → within out (answered d x) ≡ answered d (within out x)

@@ -1,5 +1,2 @@
-pub mod Device
-pub mod Commands
 pub mod Receive
-pub mod Work
 pub mod Answers

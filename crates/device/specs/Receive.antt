@@ -14,11 +14,12 @@ use Rattle.checksum.specs.Checksum.{checksum}
 use Rattle.link.specs.Link.{linkRead, linkWrite}
 use Rattle.link.specs.declared.Link.{Link}
 use Rattle.link.specs.declared.Link.the-variants.{Uart, Rs485, Can, Csp}
-use Rattle.device.specs.Device.{isFinished, frame}
-use Rattle.device.specs.Commands.{commandFault, commandDone}
-use Rattle.device.specs.declared.Device.{Device}
-use Rattle.device.specs.declared.Fault.{Fault}
-use Rattle.device.specs.declared.Fault.the-variants.{None, Nack}
+use Rattle.device_state.specs.Device.{isFinished, frame}
+use Rattle.device_state.specs.declared.Device.{Device}
+use Rattle.faults.specs.Faults.{commandFault}
+use Rattle.faults.specs.declared.Fault.{Fault}
+use Rattle.faults.specs.declared.Fault.the-variants.{None, Nack}
+use Rattle.commands.specs.Commands.{afterCommand}
 
 -- The unit after a call that was not refused: it answers, or it is silent.
 pub data Reply : Type 0 where
@@ -60,10 +61,14 @@ answered d (given u b) = given (answers d) b
 abbrev pub silence : Device → Answer Reply (List ℕ)
 silence d = given (silent d) []
 
--- A nack with the fault, which "changes nothing"; or an ack, and the command carried out.
+-- A nack with the fault, or an ack.
+unfoldable pub commandAnswer : Device → Message → Fault → Message
+commandAnswer d m None = answerTo d m Kind·of.TelecommandAck 0 0
+commandAnswer d m (Nack e i) = answerTo d m Kind·of.TelecommandNack e i
+
+-- The answer to a command, with the unit as the command leaves it.
 unfoldable pub commandReply : Device → Message → List ℕ → Fault → Answer Reply (List ℕ)
-commandReply d m p None = answered (commandDone d (m .id) p) (linkWrite (d .link) (answerTo d m Kind·of.TelecommandAck 0 0) [])
-commandReply d m p (Nack e i) = answered d (linkWrite (d .link) (answerTo d m Kind·of.TelecommandNack e i) [])
+commandReply d m p f = answered (afterCommand d (m .id) p f) (linkWrite (d .link) (commandAnswer d m f) [])
 
 -- "150 frame info | request | never." "Any other ID: error 1."
 unfoldable pub telemetryReply : Device → Message → Answer Reply (List ℕ)

@@ -3,14 +3,13 @@ ghost use mathlib.Core.Path.{_≡_};
 ghost use lib.ListN.{length};
 ghost use Rattle.message.specs.Answer.{within, counted, laid};
 ghost use Rattle.link.specs.Link.{linkWrite};
+ghost use Rattle.faults.specs.Faults.{commandFault};
 ghost use Rattle.device.specs.Answers.{receiveTold, afterReceive};
-ghost use Rattle.device.specs.Commands.{commandFault};
-ghost use Rattle.device.specs.Receive.{isTaken, answerSource, answerTo, infoBytes, answered, commandReply, telemetryReply, kindReply, receive};
-use crate::Device;
-use crate::Fault;
+ghost use Rattle.device.specs.Receive.{isTaken, answerSource, answerTo, infoBytes, answered, commandAnswer, commandReply, telemetryReply, kindReply, receive};
 use crate::Outcome;
 use crate::Received;
-use crate::command;
+use device_state::Device;
+use faults::Fault;
 use link::Link;
 use message::ErrorByte;
 use message::Kind;
@@ -84,15 +83,20 @@ fn command_reply(
     ensures { λ r. ⌜ r .device ≡ afterReceive device (within (now (out .entry)) (commandReply device message (now (payload .entry)) (commandFault device store (message .id) (now (payload .entry))))) ⌝ }
     ensures { λ _. ⌜ now (out .exit) ≡ laid (within (now (out .entry)) (commandReply device message (now (payload .entry)) (commandFault device store (message .id) (now (payload .entry))))) (now (out .entry)) ⌝ }
 {
-    match command::command_fault(device, store, message.id, payload) {
-        Fault::None => {
-            let next = command::command_done(device, message.id, payload);
-            let answer = answer_to(device, message, Kind::TelecommandAck, 0, 0);
-            send(device, next, answer, &[], out)
-        }
+    let commanded = commands::carry_out(device, store, message.id, payload);
+    let next = commanded.device;
+    let fault = commanded.fault;
+    let answer = command_answer(device, message, fault);
+    send(device, next, answer, &[], out)
+}
+
+fn command_answer(device: Device, request: Message, fault: Fault) -> Message
+    ensures { λ r. ⌜ r ≡ commandAnswer device request fault ⌝ }
+{
+    match fault {
+        Fault::None => answer_to(device, request, Kind::TelecommandAck, 0, 0),
         Fault::Nack(error, index) => {
-            let answer = answer_to(device, message, Kind::TelecommandNack, error, index);
-            send(device, device, answer, &[], out)
+            answer_to(device, request, Kind::TelecommandNack, error, index)
         }
     }
 }

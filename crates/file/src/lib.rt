@@ -1,6 +1,6 @@
-// The file of an upload: its legal sizes, and how many frames it has.
+// The file of an upload: its legal sizes, how many frames it has, and each of them.
 ghost use mathlib.Core.Path.{_≡_};
-ghost use Rattle.file.specs.File.{sizeLegal, frameCount};
+ghost use Rattle.file.specs.File.{sizeLegal, frameCount, fileFrame};
 
 // The bytes of a frame, of which the last may have fewer.
 pub const FRAME: usize = 256;
@@ -18,4 +18,19 @@ pub fn frame_count(size: u32) -> u32
     ensures { λ r. ⌜ r ≡ frameCount size ⌝ }
 {
     size / 256 + (size % 256 + 255) / 256
+}
+
+// The bytes of a frame; none past the end of the file.
+pub fn frame_bytes(file: &[u8], frame: u32) -> &[u8]
+    ensures { λ r. ⌜ now r ≡ fileFrame (now (file .entry)) frame ⌝ }
+{
+    let start = 256 * frame as usize;
+    if file.len() <= start {
+        return &file[..0];
+    }
+    let end = start + 256;
+    if file.len() < end {
+        return &file[start..];
+    }
+    &file[start..end]
 }

@@ -9,10 +9,10 @@ use Rattle.message.specs.Answer.{Answer, refused, given, number, passed, failed
 use Rattle.message.specs.declared.Refusal.{Refusal}
 use Rattle.message.specs.declared.Verdict.the-variants.{Passed, Refused}
 use Rattle.link.proofs.Laws.{no-bytes}
-use Rattle.device.specs.Answers.{afterReceive, afterWork}
+use Rattle.device.specs.Answers.{afterReceive}
 use Rattle.device.specs.Receive.{Reply, silent, messageReply, receive}
-use Rattle.device.specs.Work.{work, storeAfter}
-use Rattle.device.specs.declared.Device.{Device}
+use Rattle.work_step.specs.Work.{work, storeAfter, afterWork}
+use Rattle.device_state.specs.declared.Device.{Device}
 use Rattle.upload.specs.Round.{hear}
 use Rattle.upload.specs.Rounds.{atRest, answerCheck, callCheck, choose, made, firstRefusal}
 use Rattle.upload.specs.Schedule.{output, exchange, requested, roundCalls}

@@ -11,10 +11,11 @@ use Rattle.message.specs.Answer.{Answer, Check, refused, given, number, passed,
 use Rattle.message.specs.declared.Refusal.{Refusal}
 use Rattle.message.specs.declared.Verdict.{Verdict}
 use Rattle.message.specs.declared.Verdict.the-variants as Verdict·of
-use Rattle.device.specs.Answers.{stepTold, receiveTold}
+use Rattle.device_state.specs.Device.{stepTold}
+use Rattle.device.specs.Answers.{receiveTold}
 use Rattle.device.specs.Receive.{answers, silent, receive}
-use Rattle.device.specs.Work.{worked}
-use Rattle.device.specs.declared.Device.{Device}
+use Rattle.work_step.specs.Work.{worked}
+use Rattle.device_state.specs.declared.Device.{Device}
 use Rattle.device.specs.declared.Outcome.{Outcome}
 use Rattle.device.specs.declared.Outcome.the-variants as Outcome·of
 use Rattle.upload.specs.Rounds.{answerCheck}

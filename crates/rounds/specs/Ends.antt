@@ -3,7 +3,7 @@ use Prim.Native.Nat.{ℕ}
 use mathlib.Core.List.{List, []}
 use mathlib.Core.Path.{_≡_}
 use Rattle.message.specs.Answer.{verdictTold}
-use Rattle.device.specs.declared.Device.{Device}
+use Rattle.device_state.specs.declared.Device.{Device}
 use Rattle.upload.specs.Rounds.{made, firstRefusal}
 use Rattle.upload.specs.World.{World, Call}
 use Rattle.upload.specs.declared.Sender.{Sender}

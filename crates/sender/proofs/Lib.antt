@@ -1,3 +1,1 @@
-pub mod Frames
-pub mod Infos
-pub mod Requests
+mod Requests

@@ -3,14 +3,11 @@
 //
 // The rules are the definitions that demand 3 is proved of: `specs/Sender.antt` and `specs/Round.antt` of the crate `upload`, where the types
 // stand too.
+mod checks;
 mod hearer;
-mod lent;
 mod requester;
-mod rounds;
-mod stages;
-mod starter;
 
 pub use hearer::hear;
 pub use requester::request;
-pub use rounds::frames_known;
-pub use starter::start;
+pub use sender_state::frames_known;
+pub use sender_state::start;

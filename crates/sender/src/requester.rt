@@ -3,11 +3,9 @@ ghost use mathlib.Core.Path.{_≡_};
 ghost use Rattle.message.specs.Answer.{within, counted, laid};
 ghost use Rattle.link.specs.Link.{linkWrite};
 ghost use Rattle.little_endian.specs.LittleEndian.{toBytes};
-ghost use Rattle.upload.specs.Sender.{asked, request, requestMessage, requestPayload, requestTold};
-use crate::lent;
-use crate::stages;
+ghost use Rattle.upload.specs.Sender.{asked, request, requestPayload, requestTold};
+use crate::checks;
 use link::Link;
-use message::ErrorByte;
 use message::Message;
 use message::Refusal;
 use message::WriteAnswer;
@@ -21,31 +19,17 @@ pub fn request(sender: Sender, file: &[u8], out: &mut [u8]) -> RequestAnswer
     ensures { λ _. ⌜ now (out .exit) ≡ laid (within (now (out .entry)) (request sender (now (file .entry)))) (now (out .entry)) ⌝ }
 {
     let state = sender.state;
-    if !stages::is_running(state) {
+    if !checks::is_running(state) {
         return RequestAnswer::Nothing;
     }
-    if !lent::same_file(sender, file) {
+    if !checks::same_file(sender, file) {
         return RequestAnswer::Refused(Refusal::IllegalFileSize);
     }
     let link = sender.link;
     let stage = sender.stage;
     let number = little_endian::u32_to_bytes(sender.frame);
     let payload = request_payload(stage, file, sender.frame, &number[..2]);
-    send(link, request_message(sender), payload, out)
-}
-
-fn request_message(sender: Sender) -> Message
-    ensures { λ r. ⌜ r ≡ requestMessage sender ⌝ }
-{
-    let stage = sender.stage;
-    Message {
-        kind: stages::request_kind(stage),
-        id: stages::request_id(stage),
-        source: sender.source,
-        destination: sender.destination,
-        error: ErrorByte::Told(0),
-        index: 0,
-    }
+    send(link, sender_state::request_message(sender), payload, out)
 }
 
 // What the request of a stage carries; number is the frame's in two bytes.
@@ -54,8 +38,8 @@ fn request_payload<'a>(stage: Stage, file: &'a [u8], frame: u32, number: &'a [u8
     ensures { λ r. ⌜ now r ≡ requestPayload stage (now (file .entry)) frame ⌝ }
 {
     match stage {
-        Stage::Frame => lent::frame_bytes(file, frame),
-        Stage::Back => lent::frame_bytes(file, frame),
+        Stage::Frame => file::frame_bytes(file, frame),
+        Stage::Back => file::frame_bytes(file, frame),
         Stage::Compare => &file[..0],
         Stage::Take => number,
         Stage::Confirm => &file[..0],

@@ -13,7 +13,7 @@ use Rattle.message.specs.Kinds.{isEvent}
 use Rattle.little_endian.proofs.Laws.{to-length, from-to}
 use Rattle.file.specs.File.{fileFrame}
 use Rattle.link.specs.Link.{idCarried, linkCarried, linkRead}
-use Rattle.device.specs.declared.Device.{Device}
+use Rattle.device_state.specs.declared.Device.{Device}
 use Rattle.upload.specs.Sender.{requestPayload}
 use Rattle.upload.specs.declared.Meaning.{Meaning}
 use Rattle.upload.specs.declared.Meaning.the-variants.{Stay, Forward}

@@ -15,11 +15,12 @@ use Rattle.file.specs.File.{sizeLegal, frameCount}
 use Rattle.link.specs.declared.Link.{Link}
 use Rattle.link.specs.declared.Link.the-variants.{Uart, Rs485, Can, Csp}
 use Rattle.link.proofs.Laws.{within-given}
-use Rattle.device.specs.Commands.{fault, setupFault, commandFault, setupDone, commandDone}
+use Rattle.device_state.specs.declared.Device.{Device}
+use Rattle.faults.specs.Faults.{fault, setupFault, commandFault}
+use Rattle.faults.specs.declared.Fault.{Fault}
+use Rattle.faults.specs.declared.Fault.the-variants.{None}
+use Rattle.commands.specs.Commands.{setupDone, commandDone, afterCommand}
 use Rattle.device.specs.Receive.{Reply, answers, silent, isTaken, answered, commandReply, kindReply, messageReply, receive}
-use Rattle.device.specs.declared.Device.{Device}
-use Rattle.device.specs.declared.Fault.{Fault}
-use Rattle.device.specs.declared.Fault.the-variants.{None}
 use Rattle.upload.specs.Sender.{newSender, addressesLegal, checked, start}
 use Rattle.upload.specs.declared.Sender.{Sender}
 use Rattle.upload.specs.declared.Stage.the-variants.{Frame}
@@ -86,7 +87,7 @@ setup-unit d n h some =
 
 module _ (file : List ℕ) (w : World) (st : Start file w) where
   setup-done : w .device ≡ setupDone (st .unit) (length file)
-  unfolding receive messageReply kindReply commandReply commandDone
+  unfolding receive messageReply kindReply commandReply afterCommand commandDone
   setup-done =
       let received = within-given (st .output) (receive (st .unit) (length (w .store)) (st .bytes)) (answers (w .device)) (st .ack) (st .answered) .0 in
       let served = taken-given (isTaken (st .unit .link) (st .unit .own) (st .message)) (st .unit) (w .device) _ (st .ack) (rw (st .reads) at received) in

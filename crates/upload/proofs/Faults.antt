@@ -11,10 +11,10 @@ use Rattle.little_endian.specs.LittleEndian.{toBytes}
 use Rattle.little_endian.proofs.Laws.{to-length, from-to}
 use Rattle.file.specs.File.{frameCount}
 use Rattle.link.specs.declared.Link.{Link}
-use Rattle.device.specs.Commands.{fault, takeFault, frameFault, commandFault}
-use Rattle.device.specs.Device.{isIdle, frame}
-use Rattle.device.specs.declared.Fault.the-variants.{None, Nack}
-use Rattle.device.specs.declared.Phase.the-variants as Phase·of
+use Rattle.device_state.specs.Device.{isIdle, frame}
+use Rattle.device_state.specs.declared.Phase.the-variants as Phase·of
+use Rattle.faults.specs.Faults.{fault, takeFault, frameFault, commandFault}
+use Rattle.faults.specs.declared.Fault.the-variants.{None, Nack}
 use Rattle.upload.proofs.Situations.{unitAt}
 
 -- It is open or finished, never idle.

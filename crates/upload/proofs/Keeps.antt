@@ -8,10 +8,10 @@ use borrow.Author.Tests.{eq-eqb}
 use lib.ListN.{length}
 use Rattle.message.specs.Answer.{given, require}
 use Rattle.link.specs.Link.{linkRead}
+use Rattle.device_state.specs.declared.Device.{Device}
+use Rattle.work_step.specs.Work.{work}
 use Rattle.device.specs.Answers.{afterReceive}
 use Rattle.device.specs.Receive.{answers, receive}
-use Rattle.device.specs.Work.{work}
-use Rattle.device.specs.declared.Device.{Device}
 use Rattle.upload.specs.Round.{meaning, roundOver, hear}
 use Rattle.upload.specs.Sender.{isRunning, checked, sameFile}
 use Rattle.upload.specs.declared.Meaning.{Meaning}

@@ -5,7 +5,7 @@ use mathlib.Core.List.{List, [], _∷_}
 use mathlib.Core.Path.{_≡_, refl, ap, _∙_}
 use native.Mathlib.Omega.{arith}
 use Rattle.message.specs.Answer.{Answer, refused, given, passed}
-use Rattle.device.specs.declared.Device.{Device}
+use Rattle.device_state.specs.declared.Device.{Device}
 use Rattle.upload.specs.Legal.{begun, asked, arrived, repeated, between}
 use Rattle.upload.specs.Rounds.{atRest, answerCheck, callCheck, choose, made, firstRefusal, roundMade, roundRefusal, roundsMade, roundsRefusal, Same, EveryRun}
 use Rattle.upload.specs.Schedule.{output, exchange, requested, roundCalls, scheduled}

@@ -21,11 +21,11 @@ use Rattle.file.specs.File.{frameCount, fileFrame}
 use Rattle.link.specs.Link.{idCarried, linkCarried, linkRead, linkWrite, mostBytes}
 use Rattle.link.specs.declared.Link.{Link}
 use Rattle.link.proofs.RoundTrip.{id-arrives}
-use Rattle.device.specs.Commands.{commandDone, takeDone, frameDone}
-use Rattle.device.specs.Device.{isFinished, frame}
-use Rattle.device.specs.Receive.{answers, answerTo, infoBytes, answered, commandReply, telemetryReply, kindReply, messageReply, receive}
-use Rattle.device.specs.declared.Device.{Device}
-use Rattle.device.specs.declared.Phase.the-variants.{Open, Finished}
+use Rattle.device_state.specs.Device.{isFinished, frame}
+use Rattle.device_state.specs.declared.Device.{Device}
+use Rattle.device_state.specs.declared.Phase.the-variants.{Open, Finished}
+use Rattle.commands.specs.Commands.{commandDone, takeDone, frameDone, afterCommand}
+use Rattle.device.specs.Receive.{answers, answerTo, infoBytes, answered, commandAnswer, commandReply, telemetryReply, kindReply, messageReply, receive}
 use Rattle.upload.specs.Round.{fits, takenError, infoNumber, infoSize, infoChecksum, compared, confirmed, informed, ackMeaning, nackMeaning, infoMeaning, kindMeaning, meaning}
 use Rattle.upload.specs.Sender.{requestKind, requestId}
 use Rattle.upload.specs.declared.Meaning.{Meaning}
@@ -140,7 +140,7 @@ module _ (l : Link) (s t own : ℕ) (a : Addressed l s t own) (file : List ℕ) 
     -- A: the frame replaces what is in the buffer, and is acked.
     pub served-frame : (p : List ℕ) → linkRead l b ≡ given (asked Frame) p → i < frameCount n → 1 ≤ length p → length p ≤ 256
         → Served file (sender Frame) (unitAt l own n i buffer buffered false) store b (unitAt l own n i (p ++ drop (length p) (replicate 256 0)) (length p) false) Forward
-    unfolding linkCarried idCarried isEvent kindReply commandReply commandDone frameDone answerTo told fieldChecks idLegal payloadLegal errorLegal inside require kindMeaning ackMeaning
+    unfolding linkCarried idCarried isEvent kindReply commandReply commandAnswer afterCommand commandDone frameDone answerTo told fieldChecks idLegal payloadLegal errorLegal inside require kindMeaning ackMeaning
     served-frame p reads h some most =
         served Frame since rounds b p reads i buffer buffered false _ TelecommandAck 0 [] Forward (rw (frame-taken l own n i store buffer buffered p h some most)) (record { plain = refl; tells = refl; fields = refl }) refl
 
@@ -156,19 +156,19 @@ module _ (l : Link) (s t own : ℕ) (a : Addressed l s t own) (file : List ℕ) 
     -- C: take frame i makes it pending, and is acked;
     pub served-take : linkRead l b ≡ given (asked Take) (toBytes 2 i) → i < frameCount n → i < 65535 → 1 ≤ length (take buffered buffer) → length (take buffered buffer) ≤ n - min (256 * i) n
         → Served file (sender Take) (unitAt l own n i buffer buffered false) store b (unitAt l own n i buffer buffered true) Forward
-    unfolding linkCarried idCarried isEvent kindReply commandReply commandDone takeDone answerTo told fieldChecks idLegal payloadLegal errorLegal inside require kindMeaning ackMeaning
+    unfolding linkCarried idCarried isEvent kindReply commandReply commandAnswer afterCommand commandDone takeDone answerTo told fieldChecks idLegal payloadLegal errorLegal inside require kindMeaning ackMeaning
     served-take reads h small some fits =
         served Take since rounds b (toBytes 2 i) reads i buffer buffered false _ TelecommandAck 0 [] Forward (rw (take-taken l own n i store buffer buffered h small some fits)) (record { plain = refl; tells = refl; fields = refl }) refl
 
     -- while it is pending the repeat gets nack 6,
     pub served-pending : linkRead l b ≡ given (asked Take) (toBytes 2 i) → Served file (sender Take) (unitAt l own n i buffer buffered true) store b (unitAt l own n i buffer buffered true) Forward
-    unfolding linkCarried idCarried isEvent kindReply commandReply answerTo told fieldChecks idLegal payloadLegal errorLegal inside require kindMeaning nackMeaning takenError
+    unfolding linkCarried idCarried isEvent kindReply commandReply commandAnswer afterCommand answerTo told fieldChecks idLegal payloadLegal errorLegal inside require kindMeaning nackMeaning takenError
     served-pending reads =
         served Take since rounds b (toBytes 2 i) reads i buffer buffered true _ TelecommandNack 6 [] Forward (rw (take-pending l own n i store buffer buffered)) (record { plain = refl; tells = refl; fields = refl }) (rw (taken-told l 6 refl))
 
     -- and once it is stored nack 3.
     pub served-stored : linkRead l b ≡ given (asked Take) (toBytes 2 i) → i < 65535 → Served file (sender Take) (unitAt l own n (i + 1) buffer buffered false) store b (unitAt l own n (i + 1) buffer buffered false) Forward
-    unfolding linkCarried idCarried isEvent kindReply commandReply answerTo told fieldChecks idLegal payloadLegal errorLegal inside require kindMeaning nackMeaning takenError
+    unfolding linkCarried idCarried isEvent kindReply commandReply commandAnswer afterCommand answerTo told fieldChecks idLegal payloadLegal errorLegal inside require kindMeaning nackMeaning takenError
     served-stored reads small =
         served Take since rounds b (toBytes 2 i) reads (i + 1) buffer buffered false _ TelecommandNack 3 [] Forward (rw (take-stored l own n i store buffer buffered small)) (record { plain = refl; tells = refl; fields = refl }) (rw (taken-told l 3 refl))
 

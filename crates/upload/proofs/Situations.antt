@@ -5,8 +5,8 @@ use mathlib.Core.List.{List}
 use lib.Dec.{eqb}
 use Rattle.file.specs.File.{frameCount}
 use Rattle.link.specs.declared.Link.{Link}
-use Rattle.device.specs.declared.Device.{Device}
-use Rattle.device.specs.declared.Phase.the-variants.{Open, Finished}
+use Rattle.device_state.specs.declared.Device.{Device}
+use Rattle.device_state.specs.declared.Phase.the-variants.{Open, Finished}
 use Rattle.upload.specs.declared.Sender.{Sender}
 use Rattle.upload.specs.declared.Stage.{Stage}
 use Rattle.upload.specs.declared.State.{State}

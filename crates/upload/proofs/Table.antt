@@ -9,7 +9,7 @@ use Rattle.message.specs.Answer.{given}
 use Rattle.file.specs.File.{sizeLegal, frameCount, fileFrame}
 use Rattle.link.specs.Link.{linkRead}
 use Rattle.link.specs.declared.Link.{Link}
-use Rattle.device.specs.declared.Device.{Device}
+use Rattle.device_state.specs.declared.Device.{Device}
 use Rattle.upload.specs.Round.{meaning}
 use Rattle.upload.specs.Sender.{requestPayload}
 use Rattle.upload.specs.declared.Meaning.{Meaning}

@@ -10,10 +10,9 @@ use lib.Dec.{ltb, eqb}
 use lib.ListN.{length, take, take-append-drop}
 use Rattle.message.specs.Answer.{given, require, after}
 use Rattle.file.specs.File.{fileFrame}
-use Rattle.device.specs.Answers.{afterWork}
-use Rattle.device.specs.Device.{frame}
-use Rattle.device.specs.Work.{frameStored, hasRoom, work, storeAfter}
-use Rattle.device.specs.declared.Device.{Device}
+use Rattle.device_state.specs.Device.{frame}
+use Rattle.device_state.specs.declared.Device.{Device}
+use Rattle.work_step.specs.Work.{frameStored, hasRoom, work, storeAfter, afterWork}
 use Rattle.upload.specs.declared.Stage.{Stage}
 use Rattle.upload.specs.declared.Stage.the-variants.{Frame, Back, Compare, Take, Confirm}
 use Rattle.upload.specs.Stored.{Mark, stored, markWorked}

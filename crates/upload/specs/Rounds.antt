@@ -5,7 +5,7 @@ use mathlib.Core.Bool.{cond}
 use mathlib.Core.List.{List, [], _∷_}
 use mathlib.Core.Path.{_≡_}
 use Rattle.message.specs.Answer.{Answer, Check, refused, given, passed, failed}
-use Rattle.device.specs.declared.Device.{Device}
+use Rattle.device_state.specs.declared.Device.{Device}
 use Rattle.upload.specs.Demand.{Start}
 use Rattle.upload.specs.Schedule.{roundCalls, scheduled}
 use Rattle.upload.specs.Sender.{isRunning}

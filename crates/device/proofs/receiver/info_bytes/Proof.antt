@@ -8,7 +8,7 @@ use lib.ListN.{length}
 use lib.Seq.{length-take-le}
 use Rattle.little_endian.specs.LittleEndian.{toBytes}
 use Rattle.device.specs.Receive.{infoBytes}
-use Rattle.device.proofs.Buffers.{buffer-length, frame-most, frame-taken}
+use Rattle.device_state.proofs.Buffers.{buffer-length, frame-most, frame-taken}
 use borrow.Author.Needs.{needs}
 use Rattle.device.proofs.receiver.info_bytes.Statement.{statement}
 use Rattle.device.proofs.receiver.info_bytes.Tie as tie

@@ -1,0 +1,22 @@
+// Frame: bytes for the buffer.
+ghost use Prim.Native.Nat.{_≤_};
+ghost use mathlib.Core.Path.{_≡_};
+ghost use lib.ListN.{length};
+ghost use Rattle.commands.specs.Commands.{frameDone};
+use device_state::Device;
+
+pub(crate) fn frame_done(device: Device, payload: &[u8]) -> Device
+    requires { ⌜ length (now payload) ≤ 256 ⌝ }
+    ensures { λ r. ⌜ r ≡ frameDone device (now (payload .entry)) ⌝ }
+{
+    let mut buffer = [0u8; 256];
+    let mut i = 0;
+    while i < payload.len() {
+        buffer[i] = payload[i];
+        i += 1;
+    }
+    let mut next = device;
+    next.buffer = buffer;
+    next.buffered = payload.len() as u16;
+    next
+}

@@ -1,0 +1,13 @@
+// Cancel: only a payload is in its way.
+ghost use mathlib.Core.Path.{_≡_};
+ghost use Rattle.faults.specs.Faults.{cancelFault};
+use crate::Fault;
+
+pub(crate) fn cancel_fault(payload: &[u8]) -> Fault
+    ensures { λ r. ⌜ r ≡ cancelFault (now (payload .entry)) ⌝ }
+{
+    if payload.len() != 0 {
+        return Fault::Nack(2, 0);
+    }
+    Fault::None
+}

@@ -1,0 +1,24 @@
+// Frame: what keeps bytes out of the buffer.
+ghost use mathlib.Core.Path.{_≡_};
+ghost use Rattle.faults.specs.Faults.{frameFault};
+use crate::Fault;
+use device_state::Device;
+
+pub(crate) fn frame_fault(device: Device, payload: &[u8]) -> Fault
+    ensures { λ r. ⌜ r ≡ frameFault device (now (payload .entry)) ⌝ }
+{
+    if payload.len() == 0 {
+        return Fault::Nack(2, 0);
+    }
+    if 256 < payload.len() {
+        return Fault::Nack(2, 0);
+    }
+    let phase = device.phase;
+    if !phase.is_open() {
+        return Fault::Nack(7, 0);
+    }
+    if device.pending {
+        return Fault::Nack(6, 0);
+    }
+    Fault::None
+}

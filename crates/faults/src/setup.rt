@@ -1,0 +1,33 @@
+// Setup: what keeps a unit from being opened for a file.
+ghost use mathlib.Core.Path.{_≡_};
+ghost use Rattle.faults.specs.Faults.{setupFault};
+use crate::Fault;
+use device_state::Device;
+
+pub(crate) fn setup_fault(device: Device, store: usize, payload: &[u8]) -> Fault
+    ensures { λ r. ⌜ r ≡ setupFault device store (now (payload .entry)) ⌝ }
+{
+    if payload.len() != 4 {
+        return Fault::Nack(2, 0);
+    }
+    if device.pending {
+        return Fault::Nack(6, 0);
+    }
+    let phase = device.phase;
+    if phase.is_open() {
+        return Fault::Nack(7, 0);
+    }
+    let size = little_endian::u32_from_bytes(
+        payload[0],
+        payload[1],
+        payload[2],
+        payload[3],
+    ) as usize;
+    if !file::size_legal(size) {
+        return Fault::Nack(3, 0);
+    }
+    if store < size {
+        return Fault::Nack(3, 0);
+    }
+    Fault::None
+}

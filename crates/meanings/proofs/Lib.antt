@@ -1,0 +1,2 @@
+mod Infos
+mod Requests

@@ -1,0 +1,24 @@
+// What both calls look at first: whether the sender goes on, and the file that it is lent.
+ghost use mathlib.Core.Path.{_≡_};
+ghost use lib.Dec.{eqb};
+ghost use lib.ListN.{length};
+ghost use Rattle.upload.specs.Sender.{isRunning};
+use upload::Sender;
+use upload::State;
+
+pub(crate) fn is_running(state: State) -> bool
+    ensures { λ r. ⌜ r ≡ isRunning state ⌝ }
+{
+    match state {
+        State::Running => true,
+        State::Finished => false,
+        State::GivenUp => false,
+    }
+}
+
+// The file still has the length that the sender was started with.
+pub(crate) fn same_file(sender: Sender, file: &[u8]) -> bool
+    ensures { λ r. ⌜ r ≡ eqb (length (now (file .entry))) (sender .length) ⌝ }
+{
+    file.len() == sender.length as usize
+}

@@ -1,0 +1,87 @@
+-- Carried by the laws of the work step: nothing pending, no room, or the frame laid behind what is stored.
+use Prim.Native.Nat.{_≤_}
+use mathlib.Core.Bool.{true}
+use mathlib.Core.Path.{_≡_, sym, _∙_}
+use native.Mathlib.Omega.{arith}
+use borrow.Author.Tests.{not-true, not-false}
+use denote.Ref.{now}
+use lib.ListN.{length}
+use lib.Seq.{length-take-le}
+use Rattle.message.proofs.Parts.{part-from, put-from}
+use Rattle.work_step.specs.Work.{hasRoom}
+use Rattle.device_state.proofs.Buffers.{buffer-length, frame-most, frame-taken}
+use Rattle.work_step.proofs.Works.{idle-gives, short-gives, room, stored-gives}
+use borrow.Author.Needs.{needs}
+use Rattle.work_step.proofs.work.Statement.{statement}
+use Rattle.work_step.proofs.work.Tie as tie
+
+returns : tie.Need-returns
+returns c = idle-gives _ _ (not-true _ (c .if1 .taken))
+
+has-room-requires : tie.Need-has-room-requires
+has-room-requires c κs = search needs
+
+returns-2 : tie.Need-returns-2
+returns-2 c = short-gives _ _ (not-false _ (c .before .before .if1 .left)) (sym (c .before .has-room .ensures) ∙ not-true _ (c .if2 .taken))
+
+-- What the test of the room leaves.
+roomy : (c : tie.Else2) → hasRoom (c .before .before .before .before .before .args .device) (length (now (c .before .before .before .before .before .args .store))) ≡ true
+roomy c = sym (c .before .has-room .ensures) ∙ not-false _ (c .if2 .left)
+
+starts : (c : tie.Else2) → c .before .before .before .before .before .args .device .stored ≤ length (now (c .before .before .before .before .before .args .store))
+starts c = omega (arith, room (c .before .before .before .before .before .args .device) (now (c .before .before .before .before .before .args .store)) (roomy c))
+
+cast-at : tie.Need-cast-at
+cast-at c = search needs
+
+frame-length-requires : tie.Need-frame-length-requires
+frame-length-requires c κs = search needs
+
+array-share-prefix-buffer : tie.Need-array-share-prefix-buffer
+array-share-prefix-buffer c = omega (arith, c .before .frame-length .ensures, frame-most (c .before .before .before .before .before .before .before .before .args .device) (c .before .before .before .before .before .before .before .before .good .0), buffer-length (c .before .before .before .before .before .before .before .before .args .device) (c .before .before .before .before .before .before .before .before .good .0))
+
+slice-aggregate-lay : tie.Need-slice-aggregate-lay
+slice-aggregate-lay c = sym (length-take-le _ _ (array-share-prefix-buffer (c .before)))
+
+sub-lay : tie.Need-sub-lay
+sub-lay c = starts (c .before .before .before .before)
+
+part-lay-start : tie.Need-part-lay-start
+part-lay-start c = starts (c .before .before .before .before)
+
+part-lay-end : tie.Need-part-lay-end
+part-lay-end c = search needs
+
+lay-requires : tie.Need-lay-requires
+lay-requires c κs = search needs
+
+frame-stored-requires : tie.Need-frame-stored-requires
+frame-stored-requires c κs = room (c .before .before .before .before .before .before .before .before .before .before .before .before .before .args .device) (now (c .before .before .before .before .before .before .before .before .before .before .before .before .before .args .store)) (roomy (c .before .before .before .before .before .before .before .before)) .1
+
+same-length : tie.Need-same-length
+same-length c = search needs
+
+returns-3 : tie.Need-returns-3
+returns-3 c =
+    let d = c .before .before .before .before .before .before .before .before .before .before .before .before .before .before .args .device in
+    let e = rw (part-from, c .before .before .before .before .before .before .before .frame-length .ensures, frame-taken d) at (c .before .before .before .lay .ensures) in
+    rw (put-from _ _ _ (starts (c .before .before .before .before .before .before .before .before .before)), c .frame-stored .ensures) (stored-gives _ _ _ (not-false _ (c .before .before .before .before .before .before .before .before .before .before .before .if1 .left)) (roomy (c .before .before .before .before .before .before .before .before .before)) (e .1))
+
+pub work-spec : {M : Type 1} → statement M
+work-spec =
+    tie.close
+    (tie.spec
+    returns
+    has-room-requires
+    returns-2
+    cast-at
+    frame-length-requires
+    array-share-prefix-buffer
+    slice-aggregate-lay
+    sub-lay
+    part-lay-start
+    part-lay-end
+    lay-requires
+    frame-stored-requires
+    same-length
+    returns-3)
