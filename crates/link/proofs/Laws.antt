@@ -26,9 +26,9 @@ use Rattle.serial.specs.declared.Row.{Row}
 use Rattle.serial.specs.declared.Row.the-variants as Row·of
 use Rattle.serial.specs.declared.SerialLink.{SerialLink}
 use Rattle.serial.specs.declared.SerialLink.the-variants as SerialLink·of
-use Rattle.serial.proofs.Doubling.{doubled-most}
+use Rattle.serial_writer.proofs.Doubling.{doubled-most}
 use Rattle.serial.proofs.Tables.{head-length-three, fields-length}
-use Rattle.serial.proofs.Writing.{frame-size}
+use Rattle.serial_writer.proofs.Writing.{frame-size}
 use Rattle.link.specs.Link.{linkRead, linkWrite, mostBytes}
 use Rattle.link.specs.declared.Link.{Link}
 use Rattle.link.specs.declared.Link.the-variants.{Uart, Rs485, Can, Csp}
