@@ -19,7 +19,7 @@ use Rattle.message.proofs.Answers.{after-given, after-passed}
 use Rattle.message.proofs.Checks.{require-passed, both-true, fields-passed}
 use Rattle.message.proofs.Checks as checks
 use Rattle.can.specs.Can.{seriesType, identifier, frame, inSeries, canBytes, canCarries, canWrite, allFrames, complete, canRead}
-use Rattle.can.proofs.Writing.{identifier-length, frame-length, message-length, single-most}
+use Rattle.can_writer.proofs.Writing.{identifier-length, frame-length, message-length, single-most}
 use Rattle.csp.specs.Csp.{cspHead, cspCarries, cspRead, cspWrite}
 use Rattle.serial.specs.Frames.{rowOf, headLength, headFields, sourceLegal, carries, frameBytes, frameRead, frameWrite}
 use Rattle.serial.specs.declared.Row.{Row}

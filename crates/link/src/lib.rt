@@ -23,7 +23,7 @@ pub fn read(link: Link, bytes: &[u8], out: &mut [u8]) -> ReadAnswer
     match link {
         Link::Uart => serial_reader::read(SerialLink::Uart, bytes, out),
         Link::Rs485 => serial_reader::read(SerialLink::Rs485, bytes, out),
-        Link::Can => can::read(bytes, out),
+        Link::Can => can_reader::read(bytes, out),
         Link::Csp => csp::read(bytes, out),
     }
 }
@@ -36,7 +36,7 @@ pub fn write(link: Link, message: Message, payload: &[u8], out: &mut [u8]) -> Wr
     match link {
         Link::Uart => serial_writer::write(SerialLink::Uart, message, payload, out),
         Link::Rs485 => serial_writer::write(SerialLink::Rs485, message, payload, out),
-        Link::Can => can::write(message, payload, out),
+        Link::Can => can_writer::write(message, payload, out),
         Link::Csp => csp::write(message, payload, out),
     }
 }
