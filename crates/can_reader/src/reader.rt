@@ -1,15 +1,15 @@
 // Reading a message of one frame or of a series. Everything is decided before the first byte is stored, and the payload is copied
 // out of the frames straight into the lent output: no array is kept.
-ghost use Prim.Native.Nat.{_≤_, _<_};
+ghost use Prim.Native.Nat.{_≤_};
 ghost use mathlib.Core.Path.{_≡_};
 ghost use mathlib.Core.List.{[]};
-ghost use lib.ListN.{length, getD, take, drop};
-ghost use Rattle.message.specs.Answer.{readTold, within, counted, laid, given, passed};
-ghost use Rattle.can.specs.Can.{firstChecks, allFrames, canRead};
+ghost use lib.ListN.{length, getD};
+ghost use Rattle.message.specs.Answer.{readTold, within, counted, laid, given};
+ghost use Rattle.can.specs.Can.{allFrames, canRead};
+ghost use Rattle.can_frames.specs.Told.{measured};
 use crate::check::can_message;
-use crate::check::first_checks;
-use crate::check::later_checks;
 use crate::check::message_checks;
+use can_frames::Frames;
 use message::Message;
 use message::ReadAnswer;
 use message::Refusal;
@@ -20,59 +20,19 @@ pub fn read(bytes: &[u8], out: &mut [u8]) -> ReadAnswer
     ensures { λ r. ⌜ readTold r ≡ counted (within (now (out .entry)) (canRead (now (bytes .entry)))) ⌝ }
     ensures { λ _. ⌜ now (out .exit) ≡ laid (within (now (out .entry)) (canRead (now (bytes .entry)))) (now (out .entry)) ⌝ }
 {
-    if bytes.len() < 13 {
-        return ReadAnswer::Refused(Refusal::Truncated);
-    }
-    match first_checks(&bytes[..13]) {
-        Verdict::Refused(refusal) => ReadAnswer::Refused(refusal),
-        Verdict::Passed => read_frames(bytes, out),
+    match can_frames::scan(bytes) {
+        Frames::Refused(refusal) => ReadAnswer::Refused(refusal),
+        Frames::Whole(rest, size) => read_whole(bytes, rest, size, out),
     }
 }
 
-// Reads behind the checks of the first frame.
-fn read_frames(bytes: &[u8], out: &mut [u8]) -> ReadAnswer
-    requires { ⌜ (13 ≤ length (now bytes)) × (firstChecks (take 13 (now bytes)) ≡ passed) ⌝ }
+// Reads a message whose frames passed their checks, leave so much of the input, and have a payload of this size.
+fn read_whole(bytes: &[u8], rest: usize, size: usize, out: &mut [u8]) -> ReadAnswer
+    requires { ⌜ measured (allFrames (now bytes)) ≡ given rest size ⌝ }
     ensures { λ r. ⌜ readTold r ≡ counted (within (now (out .entry)) (canRead (now (bytes .entry)))) ⌝ }
     ensures { λ _. ⌜ now (out .exit) ≡ laid (within (now (out .entry)) (canRead (now (bytes .entry)))) (now (out .entry)) ⌝ }
 {
-    if bytes[3] < 7 {
-        return read_whole(bytes, 13, bytes[4] as usize, out);
-    }
-    read_series(bytes, out)
-}
-
-// Checks the later frames of a series, each behind the one before it, and adds up the bytes of payload that they have.
-fn read_series(bytes: &[u8], out: &mut [u8]) -> ReadAnswer
-    requires { ⌜ (13 ≤ length (now bytes)) × (firstChecks (take 13 (now bytes)) ≡ passed) × (7 ≤ getD (now bytes) 3 0) ⌝ }
-    ensures { λ r. ⌜ readTold r ≡ counted (within (now (out .entry)) (canRead (now (bytes .entry)))) ⌝ }
-    ensures { λ _. ⌜ now (out .exit) ≡ laid (within (now (out .entry)) (canRead (now (bytes .entry)))) (now (out .entry)) ⌝ }
-{
-    let mut left = bytes[12] as usize;
-    let mut at = 13;
-    let mut size = 7;
-    while 0 < left {
-        left -= 1;
-        if bytes.len() - at < 13 {
-            return ReadAnswer::Refused(Refusal::Truncated);
-        }
-        match later_checks(bytes, left, &bytes[at..at + 13]) {
-            Verdict::Refused(refusal) => return ReadAnswer::Refused(refusal),
-            Verdict::Passed => {
-                size += bytes[at + 4] as usize - 1;
-                at += 13;
-            }
-        }
-    }
-    read_whole(bytes, at, size, out)
-}
-
-// Reads a message whose frames passed their checks, end at a place, and have a payload of this size.
-fn read_whole(bytes: &[u8], end: usize, size: usize, out: &mut [u8]) -> ReadAnswer
-    requires { ⌜ counted (allFrames (now bytes)) ≡ given (drop end (now bytes)) size ⌝ }
-    ensures { λ r. ⌜ readTold r ≡ counted (within (now (out .entry)) (canRead (now (bytes .entry)))) ⌝ }
-    ensures { λ _. ⌜ now (out .exit) ≡ laid (within (now (out .entry)) (canRead (now (bytes .entry)))) (now (out .entry)) ⌝ }
-{
-    if end < bytes.len() {
+    if 0 < rest {
         return ReadAnswer::Refused(Refusal::TrailingBytes);
     }
     let message = can_message(bytes);

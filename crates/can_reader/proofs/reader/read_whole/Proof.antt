@@ -1,12 +1,12 @@
 -- Carried by the laws of frames that passed their checks: what is left are the checks of the message.
-use Prim.Native.Nat.{_<_}
 use mathlib.Core.Path.{_≡_, refl, ap, sym, _∙_}
 use native.Mathlib.Omega.{arith}
 use denote.Ref.{now}
-use lib.ListN.{length, getD, drop, length-drop}
+use lib.ListN.{length, getD}
 use Rattle.message.specs.Answer.{verdictTold, readTold, within, counted, laid}
 use Rattle.message.specs.declared.Message.{Message}
-use Rattle.can.specs.Can.{canError, canMessage}
+use Rattle.can.specs.Can.{allFrames, canError, canMessage}
+use Rattle.can_frames.proofs.Scanning.{behind, given-measured}
 use Rattle.can_reader.proofs.Reading.{counted-first, whole-trailing, whole-failed, whole-passed}
 use borrow.Author.Needs.{needs}
 use Rattle.can_reader.proofs.reader.read_whole.Statement.{statement}
@@ -17,20 +17,20 @@ unfolding readTold within counted laid
 returns c =
     let s = c .before .before .before in
     let b = now (s .args .bytes) in
-    let more : 0 < length (drop (s .args .end) b) = rw length-drop (omega (arith, c .if1 .taken)) in
-    rw (whole-trailing b (drop (s .args .end) b) (s .args .size) (s .pre) more) (refl, refl)
+    let g = given-measured (allFrames b) (s .args .rest) (s .args .size) (s .pre) in
+    rw (whole-trailing b (behind (allFrames b)) (s .args .size) (g .0) (rw (g .1) (c .if1 .taken))) (refl, refl)
 
 can-message-requires : tie.Need-can-message-requires
 can-message-requires c κs =
     let s = c .before .before .before in
     let b = now (s .args .bytes) in
-    omega (arith, counted-first b (drop (s .args .end) b) (s .args .size) (s .pre) .0)
+    omega (arith, counted-first b (behind (allFrames b)) (s .args .size) (given-measured (allFrames b) (s .args .rest) (s .args .size) (s .pre) .0) .0)
 
 shared-slice-read-message-checks : tie.Need-shared-slice-read-message-checks
 shared-slice-read-message-checks c =
     let s = c .before .before .before .before .before in
     let b = now (s .args .bytes) in
-    omega (arith, counted-first b (drop (s .args .end) b) (s .args .size) (s .pre) .0)
+    omega (arith, counted-first b (behind (allFrames b)) (s .args .size) (given-measured (allFrames b) (s .args .rest) (s .args .size) (s .pre) .0) .0)
 
 message-checks-requires : tie.Need-message-checks-requires
 unfolding canMessage
@@ -51,9 +51,10 @@ read-payload-requires c κs =
     let b = now (s .args .bytes) in
     let e = c .before .before .before .before .before .can-message .ensures in
     let id : c .before .before .before .before .before .can-message .result .id ≡ getD b 2 0 = ap (λ (x : Message). x .id) e in
-    let none : length (drop (s .args .end) b) ≡ 0 = rw length-drop (omega (arith, c .before .before .before .before .before .before .if1 .left)) in
+    let g = given-measured (allFrames b) (s .args .rest) (s .args .size) (s .pre) in
+    let none : length (behind (allFrames b)) ≡ 0 = omega (arith, g .1, c .before .before .before .before .before .before .if1 .left) in
     let told = rw id at (c .before .before .before .message-checks .ensures) in
-    rw e (whole-passed b (drop (s .args .end) b) (s .args .size) (s .pre) none (sym told ∙ ap verdictTold (c .before .enum-told .given .1)))
+    rw e (whole-passed b (behind (allFrames b)) (s .args .size) (g .0) none (sym told ∙ ap verdictTold (c .before .enum-told .given .1)))
 
 returns-2 : tie.Need-returns-2
 unfolding readTold within counted laid canMessage verdictTold
@@ -62,9 +63,10 @@ returns-2 c =
     let b = now (s .args .bytes) in
     let e = c .before .before .before .before .before .can-message .ensures in
     let id : c .before .before .before .before .before .can-message .result .id ≡ getD b 2 0 = ap (λ (x : Message). x .id) e in
-    let none : length (drop (s .args .end) b) ≡ 0 = rw length-drop (omega (arith, c .before .before .before .before .before .before .if1 .left)) in
+    let g = given-measured (allFrames b) (s .args .rest) (s .args .size) (s .pre) in
+    let none : length (behind (allFrames b)) ≡ 0 = omega (arith, g .1, c .before .before .before .before .before .before .if1 .left) in
     let told = rw id at (c .before .before .before .message-checks .ensures) in
-    rw (whole-failed b (drop (s .args .end) b) (s .args .size) (s .pre) _ none (sym told ∙ ap verdictTold (c .before .refusal .given .1))) (refl, refl)
+    rw (whole-failed b (behind (allFrames b)) (s .args .size) (g .0) _ none (sym told ∙ ap verdictTold (c .before .refusal .given .1))) (refl, refl)
 
 same-length : tie.Need-same-length
 same-length c = search needs

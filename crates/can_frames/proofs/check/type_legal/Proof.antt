@@ -1,8 +1,8 @@
 -- Carried by the tests of the two ends.
 use borrow.Author.Tests.{le-leb, lt-leb}
 use Rattle.can.specs.Can.{typeLegal}
-use Rattle.can_reader.proofs.check.type_legal.Statement.{statement}
-use Rattle.can_reader.proofs.check.type_legal.Tie as tie
+use Rattle.can_frames.proofs.check.type_legal.Statement.{statement}
+use Rattle.can_frames.proofs.check.type_legal.Tie as tie
 
 returns : tie.Need-returns
 unfolding typeLegal

@@ -1,9 +1,9 @@
 -- Carried by the case of the frames still to come.
 use borrow.Author.Tests.{le-leb, lt-leb}
 use Rattle.can.specs.Can.{laterFits}
-use Rattle.can_reader.proofs.Reading.{later-before}
-use Rattle.can_reader.proofs.check.later_fits.Statement.{statement}
-use Rattle.can_reader.proofs.check.later_fits.Tie as tie
+use Rattle.can_frames.proofs.Scanning.{later-before}
+use Rattle.can_frames.proofs.check.later_fits.Statement.{statement}
+use Rattle.can_frames.proofs.check.later_fits.Tie as tie
 
 returns : tie.Need-returns
 unfolding laterFits

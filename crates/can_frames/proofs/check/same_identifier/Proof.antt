@@ -1,9 +1,9 @@
 -- Carried by the law of two identifiers.
 use denote.Ref.{now}
-use Rattle.can_reader.proofs.Reading.{same-four}
+use Rattle.can_frames.proofs.Scanning.{same-four}
 use borrow.Author.Needs.{needs}
-use Rattle.can_reader.proofs.check.same_identifier.Statement.{statement}
-use Rattle.can_reader.proofs.check.same_identifier.Tie as tie
+use Rattle.can_frames.proofs.check.same_identifier.Statement.{statement}
+use Rattle.can_frames.proofs.check.same_identifier.Tie as tie
 
 shared-slice-read-destination : tie.Need-shared-slice-read-destination
 shared-slice-read-destination c = search needs

@@ -4,8 +4,8 @@ use borrow.Author.Tests.{not-true, not-false}
 use Rattle.message.specs.Answer.{verdictTold, require}
 use Rattle.can.proofs.Checks.{first-checks-at}
 use borrow.Author.Needs.{needs}
-use Rattle.can_reader.proofs.check.first_checks.Statement.{statement}
-use Rattle.can_reader.proofs.check.first_checks.Tie as tie
+use Rattle.can_frames.proofs.check.first_checks.Statement.{statement}
+use Rattle.can_frames.proofs.check.first_checks.Tie as tie
 
 shared-slice-read-t : tie.Need-shared-slice-read-t
 shared-slice-read-t c = search needs

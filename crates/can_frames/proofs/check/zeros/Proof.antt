@@ -4,9 +4,9 @@ use mathlib.Core.Path.{_≡_, refl, sym, _∙_}
 use borrow.Author.Needs.{needs}
 use lib.ListN.{length, drop}
 use Rattle.can.specs.Can.{zeros}
-use Rattle.can_reader.proofs.Reading.{zeros-step, zeros-stop, zeros-end}
-use Rattle.can_reader.proofs.check.zeros.Statement.{statement}
-use Rattle.can_reader.proofs.check.zeros.Tie as tie
+use Rattle.can_frames.proofs.Scanning.{zeros-step, zeros-stop, zeros-end}
+use Rattle.can_frames.proofs.check.zeros.Statement.{statement}
+use Rattle.can_frames.proofs.check.zeros.Tie as tie
 
 abbrev Inv-loop : tie.InvT-loop
 Inv-loop bytes from at₀ at = zeros (drop from bytes) ≡ zeros (drop at bytes)

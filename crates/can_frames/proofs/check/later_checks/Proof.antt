@@ -9,8 +9,8 @@ use Rattle.message.specs.Answer.{verdictTold, require}
 use Rattle.can.specs.Can.{laterChecks}
 use Rattle.can.proofs.Checks.{later-dlc, later-checks-at}
 use borrow.Author.Needs.{needs}
-use Rattle.can_reader.proofs.check.later_checks.Statement.{statement}
-use Rattle.can_reader.proofs.check.later_checks.Tie as tie
+use Rattle.can_frames.proofs.check.later_checks.Statement.{statement}
+use Rattle.can_frames.proofs.check.later_checks.Tie as tie
 
 shared-slice-read-type-legal : tie.Need-shared-slice-read-type-legal
 shared-slice-read-type-legal c = search needs

@@ -1,8 +1,8 @@
 -- Carried by the tests of the type, then of the DLC and the count.
 use borrow.Author.Tests.{le-leb, lt-leb, ne-eqb}
 use Rattle.can.specs.Can.{firstFits}
-use Rattle.can_reader.proofs.check.first_fits.Statement.{statement}
-use Rattle.can_reader.proofs.check.first_fits.Tie as tie
+use Rattle.can_frames.proofs.check.first_fits.Statement.{statement}
+use Rattle.can_frames.proofs.check.first_fits.Tie as tie
 
 returns : tie.Need-returns
 unfolding firstFits

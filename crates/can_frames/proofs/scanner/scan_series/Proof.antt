@@ -1,22 +1,23 @@
 -- Carried by the laws of a later frame: what all frames come to is what those from the place reached on come to, behind what was added up.
 use Prim.Native.Nat.{_+_, _-_, _≤_}
-use mathlib.Core.Path.{_≡_, refl, ap, sym, _∙_}
+use mathlib.Core.Path.{_≡_, ap, sym, _∙_}
 use native.Mathlib.Nat.{add-sub-cancel-left}
 use native.Mathlib.Omega.{arith}
 use borrow.Author.Needs.{needs}
 use denote.Ref.{now}
 use lib.ListN.{length, take, drop, length-drop}
 use lib.Seq.{length-take-le}
-use Rattle.message.specs.Answer.{verdictTold, readTold, within, counted, laid}
-use Rattle.can_reader.proofs.Reading.{passed-dlc, Ahead, ahead-first, ahead-cut, ahead-failed, ahead-passed, ahead-done}
-use Rattle.can_reader.proofs.reader.read_series.Statement.{statement}
-use Rattle.can_reader.proofs.reader.read_series.Tie as tie
+use Rattle.message.specs.Answer.{verdictTold}
+use Rattle.can_frames.specs.Told.{framesTold}
+use Rattle.can_frames.proofs.Scanning.{passed-dlc, Ahead, ahead-first, ahead-cut, ahead-failed, ahead-passed, ahead-done}
+use Rattle.can_frames.proofs.scanner.scan_series.Statement.{statement}
+use Rattle.can_frames.proofs.scanner.scan_series.Tie as tie
 
 abbrev Inv-loop : tie.InvT-loop
-Inv-loop bytes out left₀ at₀ size₀ left at size = (at ≤ length bytes) × (size ≤ at) × Ahead bytes at size left
+Inv-loop bytes left₀ at₀ size₀ left at size = (at ≤ length bytes) × (size ≤ at) × Ahead bytes at size left
 
 abbrev μ-loop : tie.MeasureT-loop
-μ-loop bytes out left₀ at₀ size₀ left at size = left
+μ-loop bytes left₀ at₀ size₀ left at size = left
 
 shared-slice-read-left : tie.Need-shared-slice-read-left Inv-loop μ-loop
 shared-slice-read-left c = search needs
@@ -25,7 +26,7 @@ cast-left : tie.Need-cast-left Inv-loop μ-loop
 cast-left c = omega (arith, c .shared-slice-known2 .given 12)
 
 loop-holds : tie.Need-loop-holds Inv-loop μ-loop
-loop-holds c = let s = c .before .before .before in (s .pre .0, omega arith, ahead-first (now (s .args .bytes)) (s .pre .0) (s .pre .1) (s .pre .2))
+loop-holds c = let s = c .before .before in (s .pre .0, omega arith, ahead-first (now (s .args .bytes)) (s .pre .0) (s .pre .1) (s .pre .2))
 
 sub-left : tie.Need-sub-left Inv-loop μ-loop
 sub-left c = search needs
@@ -34,12 +35,12 @@ sub-if1 : tie.Need-sub-if1 Inv-loop μ-loop
 sub-if1 c = omega (arith, c .before .loop .inv .0)
 
 returns : tie.Need-returns Inv-loop μ-loop
-unfolding readTold within counted laid
+unfolding framesTold
 returns c =
-    let s = c .before .before .before .before .before .before in
+    let s = c .before .before .before .before .before in
     let l = c .before .before .loop in
     let b = now (s .args .bytes) in
-    rw (ahead-cut b (l .at) (l .size) (l .left) (l .left - 1) (omega arith) (l .inv .2) (c .if1 .taken)) (refl, refl)
+    sym (ahead-cut b (l .at) (l .size) (l .left) (l .left - 1) (omega arith) (l .inv .2) (c .if1 .taken))
 
 add-later-checks : tie.Need-add-later-checks Inv-loop μ-loop
 add-later-checks c = omega (arith, c .before .before .loop .inv .0)
@@ -55,7 +56,7 @@ part-later-checks-end c = omega (arith, c .before .before .loop .inv .0)
 
 later-checks-requires : tie.Need-later-checks-requires Inv-loop μ-loop
 later-checks-requires c κs =
-    let s = c .before .before .before .before .before .before .before in
+    let s = c .before .before .before .before .before .before in
     let l = c .before .before .before .loop in
     let b = now (s .args .bytes) in
     (omega (arith, s .pre .0), rw add-sub-cancel-left (length-take-le 13 (drop (l .at) b) (rw length-drop (omega (arith, c .before .if1 .left)))))
@@ -64,13 +65,13 @@ enum-known-refusal : tie.Need-enum-known-refusal Inv-loop μ-loop
 enum-known-refusal c = search needs
 
 returns-2 : tie.Need-returns-2 Inv-loop μ-loop
-unfolding readTold within counted laid verdictTold
+unfolding framesTold verdictTold
 returns-2 c =
-    let s = c .before .before .before .before .before .before .before .before .before .before .before in
+    let s = c .before .before .before .before .before .before .before .before .before .before in
     let l = c .before .before .before .before .before .before .before .loop in
     let b = now (s .args .bytes) in
     let told = rw add-sub-cancel-left at (c .before .before .before .later-checks .ensures) in
-    rw (ahead-failed b (l .at) (l .size) (l .left) (l .left - 1) (omega arith) (l .inv .2) _ (c .before .before .before .before .before .if1 .left) (sym told ∙ ap verdictTold (c .before .refusal .given .1))) (refl, refl)
+    sym (ahead-failed b (l .at) (l .size) (l .left) (l .left - 1) (omega arith) (l .inv .2) _ (c .before .before .before .before .before .if1 .left) (sym told ∙ ap verdictTold (c .before .refusal .given .1)))
 
 enum-told : tie.Need-enum-told Inv-loop μ-loop
 enum-told c = search needs
@@ -87,7 +88,7 @@ cast-size c = omega (arith, c .shared-slice-known3 .given (c .before .before .be
 sub-size : tie.Need-sub-size Inv-loop μ-loop
 unfolding verdictTold
 sub-size c =
-    let s = c .before .before .before .before .before .before .before .before .before .before .before in
+    let s = c .before .before .before .before .before .before .before .before .before .before in
     let l = c .before .before .before .before .before .before .before .loop in
     let b = now (s .args .bytes) in
     let told = rw add-sub-cancel-left at (c .before .before .before .later-checks .ensures) in
@@ -98,7 +99,7 @@ sub-size c =
 add-size-2 : tie.Need-add-size-2 Inv-loop μ-loop
 unfolding verdictTold
 add-size-2 c =
-    let s = c .before .before .before .before .before .before .before .before .before .before .before in
+    let s = c .before .before .before .before .before .before .before .before .before .before in
     let l = c .before .before .before .before .before .before .before .loop in
     let b = now (s .args .bytes) in
     let told = rw add-sub-cancel-left at (c .before .before .before .later-checks .ensures) in
@@ -115,7 +116,7 @@ loop-less c = search needs
 loop-again : tie.Need-loop-again Inv-loop μ-loop
 unfolding verdictTold
 loop-again c =
-    let s = c .before .before .before .before .before .before .before .before .before .before .before in
+    let s = c .before .before .before .before .before .before .before .before .before .before in
     let l = c .before .before .before .before .before .before .before .loop in
     let b = now (s .args .bytes) in
     let told = rw add-sub-cancel-left at (c .before .before .before .later-checks .ensures) in
@@ -123,22 +124,20 @@ loop-again c =
     let d = passed-dlc b (take 4 b) (l .left - 1) (l .at) passes in
     (omega (arith, l .inv .0, c .before .before .before .before .before .if1 .left), omega (arith, d, l .inv .1), ahead-passed b (l .at) (l .size) (l .left) (l .left - 1) (omega arith) (l .inv .2) (c .before .before .before .before .before .if1 .left) passes)
 
-read-whole-requires : tie.Need-read-whole-requires Inv-loop μ-loop
-read-whole-requires c κs =
-    let s = c .before .before .before .before .before .before in
-    let l = c .before .before .loop in
-    let b = now (s .args .bytes) in
-    let none : l .left ≡ 0 = omega (arith, c .before .loop-test .left) in
-    ahead-done b (l .at) (l .size) (rw none at (l .inv .2))
-
-same-length : tie.Need-same-length Inv-loop μ-loop
-same-length c = search needs
+sub-rest : tie.Need-sub-rest Inv-loop μ-loop
+sub-rest c = omega (arith, c .before .loop .inv .0)
 
 returns-3 : tie.Need-returns-3 Inv-loop μ-loop
-returns-3 c = c .before .before .read-whole .ensures
+unfolding framesTold
+returns-3 c =
+    let s = c .before .before .before .before in
+    let l = c .before .loop in
+    let b = now (s .args .bytes) in
+    let none : l .left ≡ 0 = omega (arith, c .loop-test .left) in
+    sym (ahead-done b (l .at) (l .size) (rw none at (l .inv .2)))
 
-pub read-series-spec : {M : Type 1} → statement M
-read-series-spec =
+pub scan-series-spec : {M : Type 1} → statement M
+scan-series-spec =
     tie.close
     (tie.spec
     Inv-loop
@@ -165,6 +164,5 @@ read-series-spec =
     add-at
     loop-less
     loop-again
-    read-whole-requires
-    same-length
+    sub-rest
     returns-3)
