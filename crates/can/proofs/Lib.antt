@@ -1,5 +1,4 @@
+pub mod Checks
 pub mod Frames
-pub mod Reading
 pub mod RoundTrip
 pub mod Series
-pub mod Writing

@@ -13,6 +13,7 @@ use Rattle.message.specs.Kinds.{isEvent, typeNumber}
 use Rattle.message.proofs.Answers.{after-passed}
 use Rattle.message.proofs.Checks.{require-passed, both-true}
 use Rattle.can.specs.Can.{seriesType, kindOfType, frame, series, typeLegal, zeros, firstFits, firstChecks, allFrames, laterFits, sameBytes, laterChecks, prepend, laterFrames}
+use Rattle.can.proofs.Checks.{later-dlc}
 use Rattle.can.proofs.Frames.{same-bytes, frame-back, used-count}
 
 -- What a payload in front leaves behind it.
@@ -33,11 +34,6 @@ pub record Later (i : List ℕ) (n : ℕ) (s rest p : List ℕ) : Type 0 where
   pub fits : laterFits n (length front + 1) ≡ true
   pub again : laterFrames i n behind ≡ given rest left
   pub parts : front ++ left ≡ p
-
-later-dlc : (n d : ℕ) → laterFits n d ≡ true → (1 ≤ d) × (d ≤ 8)
-unfolding laterFits
-later-dlc zero d h = let g = both-true (leb 1 d) (leb d 7) h in let high = leb-true d 7 (g .1) in (leb-true 1 d (g .0), omega arith)
-later-dlc (suc n) d h = let e = eqb-true d 8 h in (omega arith, omega arith)
 
 later-one : (i : List ℕ) (n a b c t l : ℕ) (s rest p : List ℕ) → laterFrames i (suc n) (a ∷ b ∷ c ∷ t ∷ l ∷ s) ≡ given rest p → Later i n (a ∷ b ∷ c ∷ t ∷ l ∷ s) rest p
 unfolding laterFrames laterChecks

@@ -1,7 +1,2 @@
-// Messages on CAN, in the 13-byte form of a frame, single or in a series. The rules are definitions of `specs/Can.antt`.
-mod check;
-mod reader;
-mod writer;
-
-pub use reader::read;
-pub use writer::write;
+// The rules of messages on CAN, in the 13-byte form of a frame, single or in a series: definitions of `specs/Can.antt`, and both round
+// trips. `can_reader` and `can_writer` stand on it.

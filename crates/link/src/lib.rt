@@ -21,9 +21,9 @@ pub fn read(link: Link, bytes: &[u8], out: &mut [u8]) -> ReadAnswer
     ensures { λ _. ⌜ now (out .exit) ≡ laid (within (now (out .entry)) (linkRead link (now (bytes .entry)))) (now (out .entry)) ⌝ }
 {
     match link {
-        Link::Uart => serial::read(SerialLink::Uart, bytes, out),
-        Link::Rs485 => serial::read(SerialLink::Rs485, bytes, out),
-        Link::Can => can::read(bytes, out),
+        Link::Uart => serial_reader::read(SerialLink::Uart, bytes, out),
+        Link::Rs485 => serial_reader::read(SerialLink::Rs485, bytes, out),
+        Link::Can => can_reader::read(bytes, out),
         Link::Csp => csp::read(bytes, out),
     }
 }
@@ -34,9 +34,9 @@ pub fn write(link: Link, message: Message, payload: &[u8], out: &mut [u8]) -> Wr
     ensures { λ _. ⌜ now (out .exit) ≡ laid (within (now (out .entry)) (linkWrite link message (now (payload .entry)))) (now (out .entry)) ⌝ }
 {
     match link {
-        Link::Uart => serial::write(SerialLink::Uart, message, payload, out),
-        Link::Rs485 => serial::write(SerialLink::Rs485, message, payload, out),
-        Link::Can => can::write(message, payload, out),
+        Link::Uart => serial_writer::write(SerialLink::Uart, message, payload, out),
+        Link::Rs485 => serial_writer::write(SerialLink::Rs485, message, payload, out),
+        Link::Can => can_writer::write(message, payload, out),
         Link::Csp => csp::write(message, payload, out),
     }
 }

@@ -17,11 +17,11 @@ use Rattle.message.specs.declared.Kind.{Kind}
 use Rattle.message.specs.declared.Message.{Message}
 use Rattle.digits.proofs.Printing.{decimal-length}
 use Rattle.digits.specs.Numbers.{decimal}
+use Rattle.stuffing.specs.Stuffing.{Scan, scan, escaped, frameScan}
+use Rattle.stuffing.specs.declared.Stop.the-variants.{Ended, Broken, Cut}
+use Rattle.stuffing.specs.declared.Stop.{Stop}
 use Rattle.serial.specs.Frames.{frameRead}
-use Rattle.serial.specs.Stuffing.{Scan, scan, escaped, frameScan}
 use Rattle.serial.specs.declared.SerialLink.the-variants.{Uart}
-use Rattle.serial.specs.declared.Stop.the-variants.{Ended, Broken, Cut}
-use Rattle.serial.specs.declared.Stop.{Stop}
 use Rattle.listing.specs.Lines.{kindText, fieldText, idOf, codeOf, line, spaced, lineText}
 use Rattle.listing.specs.Listing.{Found, nothing, frame, hunt, frameLength, said, frameLine, framed, lines, listing, longest}
 use Rattle.listing.specs.declared.line.Field.the-variants.{Number, Dash}

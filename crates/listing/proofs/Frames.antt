@@ -5,11 +5,11 @@ use mathlib.Core.Path.{_≡_}
 use native.Mathlib.Nat.{add-sub-cancel-left}
 use lib.ListN.{take}
 use Rattle.message.specs.Answer.{refused, counted}
+use Rattle.stuffing.specs.Stuffing.{frameScan}
+use Rattle.stuffing.specs.declared.Stop.the-variants.{Ended, Broken, Cut}
+use Rattle.stuffing.specs.declared.Stop.{Stop}
 use Rattle.serial.specs.Frames.{frameRead}
-use Rattle.serial.specs.Stuffing.{frameScan}
 use Rattle.serial.specs.declared.SerialLink.the-variants.{Uart}
-use Rattle.serial.specs.declared.Stop.the-variants.{Ended, Broken, Cut}
-use Rattle.serial.specs.declared.Stop.{Stop}
 use Rattle.listing.specs.Listing.{frameLength, said}
 
 module _ (stop : Stop) (f : List ℕ) (scanned : stop ≡ frameScan f .stop) where

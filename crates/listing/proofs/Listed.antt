@@ -16,16 +16,16 @@ use Rattle.message.specs.Answer.{refused, given, counted, passed, require, afte
 use Rattle.message.specs.Body.{bodyBytes}
 use Rattle.message.specs.Checks.{writable, writeChecks}
 use Rattle.message.specs.declared.Message.{Message}
+use Rattle.stuffing.proofs.Scans.{scan-plain, scan-doubled}
+use Rattle.stuffing.specs.Stuffing.{doubled, Scan, stopped, scan, escaped, frameScan}
+use Rattle.stuffing.specs.declared.Stop.the-variants.{Ended, Broken, Cut}
+use Rattle.stuffing.specs.declared.Stop.{Stop}
 use Rattle.serial.proofs.RoundTrip.{written-reads}
-use Rattle.serial.proofs.Scans.{scan-plain, scan-doubled}
 use Rattle.serial.proofs.Tables.{row-of-start, written-row}
 use Rattle.serial.specs.Frames.{startByte, startRow, rowOf, sourceLegal, closed, started, frameRead, carries, headFields, frameBytes, frameWrite, frameCarried}
-use Rattle.serial.specs.Stuffing.{doubled, Scan, stopped, scan, escaped, frameScan}
 use Rattle.serial.specs.declared.Row.{Row}
 use Rattle.serial.specs.declared.SerialLink.the-variants.{Uart}
 use Rattle.serial.specs.declared.StartRow.the-variants.{Known, Unknown}
-use Rattle.serial.specs.declared.Stop.the-variants.{Ended, Broken, Cut}
-use Rattle.serial.specs.declared.Stop.{Stop}
 use Rattle.listing.specs.Lines.{line, lineText}
 use Rattle.listing.specs.Listing.{frameLength, said, frameLine, lines}
 use Rattle.listing.proofs.Walks.{lines-pair, lines-end, lines-frame}

@@ -19,17 +19,17 @@ use Rattle.message.specs.declared.Kind.the-variants as Kind·of
 use Rattle.message.specs.declared.Kind.{Kind}
 use Rattle.message.specs.declared.Message.{Message}
 use Rattle.message.specs.declared.ReadAnswer.{ReadAnswer}
+use Rattle.stuffing.specs.Stuffing.{scan}
+use Rattle.stuffing.specs.declared.Stop.the-variants.{Ended, Broken, Cut}
+use Rattle.stuffing.specs.declared.Stop.{Stop}
 use Rattle.serial.proofs.RoundTrip.{read-writes}
 use Rattle.serial.specs.Frames.{startRow, kindOf, headLength, idField, sourceLegal, sourced, identified, frameBody, closed, started, carries, frameRead, frameWrite}
-use Rattle.serial.specs.Stuffing.{scan}
 use Rattle.serial.specs.declared.IdKind.the-variants as IdKind·of
 use Rattle.serial.specs.declared.IdKind.{IdKind}
 use Rattle.serial.specs.declared.Row.{Row}
 use Rattle.serial.specs.declared.SerialLink.the-variants.{Uart}
 use Rattle.serial.specs.declared.StartRow.the-variants as StartRow·of
 use Rattle.serial.specs.declared.StartRow.{StartRow}
-use Rattle.serial.specs.declared.Stop.the-variants.{Ended, Broken, Cut}
-use Rattle.serial.specs.declared.Stop.{Stop}
 
 module _ (b : List ℕ) where
   pub read-checked : (m : Message) (p : List ℕ) → frameRead Uart b ≡ given m p → writeChecks (carries Uart) m (length p) ≡ passed

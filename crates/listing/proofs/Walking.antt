@@ -7,12 +7,12 @@ use borrow.Author.Tests.{le-leb}
 use lib.ListN.{length, getD, drop, length-append, length-drop}
 use lib.Seq.{sets, drop-drop}
 use Rattle.message.proofs.Stores.{sets-append}
+use Rattle.stuffing.specs.Stuffing.{scan, frameScan}
+use Rattle.stuffing.specs.declared.Stop.{Stop}
 use Rattle.serial.specs.Frames.{startRow}
-use Rattle.serial.specs.Stuffing.{scan, frameScan}
 use Rattle.serial.specs.declared.Row.{Row}
 use Rattle.serial.specs.declared.SerialLink.the-variants.{Uart}
 use Rattle.serial.specs.declared.StartRow.the-variants.{Known, Unknown}
-use Rattle.serial.specs.declared.Stop.{Stop}
 use Rattle.listing.specs.Listing.{frameLength, frameLine, lines, header, listing, longest}
 use Rattle.listing.proofs.Bound.{frame-inside, lines-short}
 use Rattle.listing.proofs.Puts.{Put, put-more}

@@ -6,13 +6,13 @@ use lib.Dec.{leb, eqb}
 use lib.ListN.{length, take, drop}
 use Rattle.message.specs.Answer.{Answer, refused, counted}
 use Rattle.message.specs.declared.Message.{Message}
+use Rattle.stuffing.specs.Stuffing.{frameScan}
+use Rattle.stuffing.specs.declared.Stop.{Stop}
+use Rattle.stuffing.specs.declared.Stop.the-variants.{Ended, Broken, Cut}
 use Rattle.serial.specs.Frames.{startRow, frameRead}
-use Rattle.serial.specs.Stuffing.{frameScan}
 use Rattle.serial.specs.declared.SerialLink.the-variants.{Uart}
 use Rattle.serial.specs.declared.StartRow.{StartRow}
 use Rattle.serial.specs.declared.StartRow.the-variants.{Known, Unknown}
-use Rattle.serial.specs.declared.Stop.{Stop}
-use Rattle.serial.specs.declared.Stop.the-variants.{Ended, Broken, Cut}
 use Rattle.listing.specs.Lines.{text, line, lineText}
 
 -- What a hunt comes to: a frame's offset and the bytes from its ESC on, or no frame.

@@ -47,7 +47,7 @@ pub(crate) fn read_line(at: usize, frame: &[u8]) -> Line
     ensures { λ r. ⌜ r ≡ line at (counted (frameRead SerialLink.Uart (now (frame .entry)))) ⌝ }
 {
     let mut payload = [0u8; 256];
-    match serial::read(SerialLink::Uart, frame, &mut payload) {
+    match serial_reader::read(SerialLink::Uart, frame, &mut payload) {
         ReadAnswer::Refused(refusal) => refused_line(at, refusal),
         ReadAnswer::Message(message, length) => message_line(at, message, length),
     }

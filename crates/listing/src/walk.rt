@@ -4,7 +4,7 @@ ghost use mathlib.Core.Path.{_≡_};
 ghost use lib.ListN.{length, drop};
 ghost use lib.Seq.{sets};
 ghost use Rattle.message.specs.Answer.{writeTold, within, counted, laid, written};
-ghost use Rattle.serial.specs.Stuffing.{frameScan};
+ghost use Rattle.stuffing.specs.Stuffing.{frameScan};
 ghost use Rattle.listing.specs.Lines.{line};
 ghost use Rattle.listing.specs.Listing.{frameLength, said, listing};
 use crate::line::Line;
@@ -16,8 +16,8 @@ use message::Refusal;
 use message::WriteAnswer;
 use serial::SerialLink;
 use serial::StartRow;
-use serial::Stop;
-use serial::Uart;
+use stuffing::Stop;
+use stuffing::Uart;
 
 const LONGEST_INPUT: usize = 65536;
 
@@ -58,7 +58,7 @@ fn walk(bytes: &[u8], out: &mut [u8]) -> usize
             }
             at += 2;
         };
-        let scanned = serial::scan(bytes, start + 2);
+        let scanned = stuffing::scan(bytes, start + 2);
         let stop = scanned.stop;
         let end = scanned.end;
         to = put_line(frame_line(bytes, start, stop, end), out, to);

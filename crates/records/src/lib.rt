@@ -59,12 +59,12 @@ pub fn write_array(message: Message, payload: &[u8], frames: [CanFrame; 64], cou
     }
 }
 
-// The longest series has 37 frames, 481 bytes: what can::write refuses is never for want of room.
+// The longest series has 37 frames, 481 bytes: what can_writer::write refuses is never for want of room.
 fn decide(message: Message, payload: &[u8], room: usize) -> Plan
     ensures { λ r. ⌜ Decided (fitting room (recordsWrite message (now (payload .entry)))) room r ⌝ }
 {
     let mut bytes = [0u8; 481];
-    match can::write(message, payload, &mut bytes) {
+    match can_writer::write(message, payload, &mut bytes) {
         WriteAnswer::Refused(refusal) => refused(bytes, refusal),
         WriteAnswer::Length(length) => planned(bytes, length / 13, room),
     }

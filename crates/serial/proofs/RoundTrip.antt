@@ -19,18 +19,18 @@ use Rattle.message.specs.declared.Message.{Message}
 use Rattle.message.proofs.Answers.{after-given, after-passed}
 use Rattle.message.proofs.Bodies.{body-written, body-read}
 use Rattle.message.proofs.Checks.{require-passed, fields-passed, fields-pass}
-use Rattle.serial.specs.Stuffing.{doubled, scan}
+use Rattle.stuffing.specs.Stuffing.{doubled, scan}
+use Rattle.stuffing.specs.declared.Stop.{Stop}
+use Rattle.stuffing.specs.declared.Stop.the-variants.{Ended, Broken, Cut}
+use Rattle.stuffing.proofs.Scans.{scan-doubled, doubled-scan}
 use Rattle.serial.specs.Frames.{startByte, startRow, rowOf, kindOf, headLength, idField, addressField, sourceLegal, sourced, identified, frameBody, closed, started, frameRead, carries, headFields, frameBytes, frameWrite, idCarried, addressCarried, frameCarried}
 use Rattle.serial.specs.declared.IdKind.{IdKind}
 use Rattle.serial.specs.declared.IdKind.the-variants as IdKind·of
 use Rattle.serial.specs.declared.Row.{Row}
-use Rattle.serial.specs.declared.Stop.{Stop}
-use Rattle.serial.specs.declared.Stop.the-variants.{Ended, Broken, Cut}
 use Rattle.serial.specs.declared.StartRow.{StartRow}
 use Rattle.serial.specs.declared.StartRow.the-variants as StartRow·of
 use Rattle.serial.specs.declared.SerialLink.{SerialLink}
 use Rattle.serial.specs.declared.SerialLink.the-variants.{Uart, Rs485}
-use Rattle.serial.proofs.Scans.{scan-doubled, doubled-scan}
 use Rattle.serial.proofs.Tables.{Has, row-of-start, start-of-row, fields-again, fields-length, kind-of-id, row-of-kind, written-row, read-writable, body-again}
 
 -- A frame around a doubled body reads as that body.

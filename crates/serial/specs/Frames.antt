@@ -12,7 +12,9 @@ use Rattle.message.specs.declared.Carries.{Carries}
 use Rattle.message.specs.declared.Kind.{Kind}
 use Rattle.message.specs.declared.Kind.the-variants as Kind·of
 use Rattle.message.specs.declared.Message.{Message}
-use Rattle.serial.specs.Stuffing.{doubled, scan}
+use Rattle.stuffing.specs.Stuffing.{doubled, scan}
+use Rattle.stuffing.specs.declared.Stop.{Stop}
+use Rattle.stuffing.specs.declared.Stop.the-variants.{Ended, Broken, Cut}
 use Rattle.serial.specs.declared.IdKind.{IdKind}
 use Rattle.serial.specs.declared.IdKind.the-variants as IdKind·of
 use Rattle.serial.specs.declared.Row.{Row}
@@ -21,8 +23,6 @@ use Rattle.serial.specs.declared.SerialLink.{SerialLink}
 use Rattle.serial.specs.declared.SerialLink.the-variants.{Uart, Rs485}
 use Rattle.serial.specs.declared.StartRow.{StartRow}
 use Rattle.serial.specs.declared.StartRow.the-variants as StartRow·of
-use Rattle.serial.specs.declared.Stop.{Stop}
-use Rattle.serial.specs.declared.Stop.the-variants.{Ended, Broken, Cut}
 
 -- The table of start bytes. RS485 has no event: 0 stands for what is never written.
 abbrev pub startByte : SerialLink → Row → ℕ

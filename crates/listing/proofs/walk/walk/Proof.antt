@@ -5,7 +5,7 @@ use native.Mathlib.Omega.{arith}
 use borrow.Author.Needs.{needs}
 use denote.Ref.{now}
 use lib.ListN.{length, drop}
-use Rattle.serial.specs.Stuffing.{frameScan}
+use Rattle.stuffing.specs.Stuffing.{frameScan}
 use Rattle.listing.specs.Listing.{frameLength, frameLine}
 use Rattle.listing.proofs.Walking.{Begins, Hunted, Walked, hunted-byte, hunted-pair, end-inside, line-fits, walked-frame, scanned, walked-end}
 use Rattle.listing.proofs.walk.walk.Statement.{statement}

@@ -1,0 +1,69 @@
+-- Carried by the checks in their order: each return rewrites with those that led there.
+use native.Mathlib.Omega.{arith}
+use borrow.Author.Tests.{not-true, not-false}
+use Rattle.message.specs.Answer.{verdictTold, require}
+use Rattle.can.proofs.Checks.{first-checks-at}
+use borrow.Author.Needs.{needs}
+use Rattle.can_frames.proofs.check.first_checks.Statement.{statement}
+use Rattle.can_frames.proofs.check.first_checks.Tie as tie
+
+shared-slice-read-t : tie.Need-shared-slice-read-t
+shared-slice-read-t c = search needs
+
+type-legal-requires : tie.Need-type-legal-requires
+type-legal-requires c κs = search needs
+
+returns : tie.Need-returns
+unfolding verdictTold require
+returns c = rw (first-checks-at, ← c .before .type-legal .ensures, not-true (c .before .type-legal .result) (c .if1 .taken))
+
+shared-slice-read-first-fits : tie.Need-shared-slice-read-first-fits
+shared-slice-read-first-fits c = search needs
+
+shared-slice-read-first-fits-2 : tie.Need-shared-slice-read-first-fits-2
+shared-slice-read-first-fits-2 c = search needs
+
+first-fits-requires : tie.Need-first-fits-requires
+first-fits-requires c κs = search needs
+
+returns-2 : tie.Need-returns-2
+unfolding verdictTold require
+returns-2 c = rw (first-checks-at, ← c .before .before .before .before .before .type-legal .ensures, not-false (c .before .before .before .before .before .type-legal .result) (c .before .before .before .before .if1 .left), ← c .before .first-fits .ensures, not-true (c .before .first-fits .result) (c .if2 .taken))
+
+shared-slice-read-zeros : tie.Need-shared-slice-read-zeros
+shared-slice-read-zeros c = search needs
+
+cast-zeros : tie.Need-cast-zeros
+cast-zeros c = omega (arith, c .shared-slice-known5 .given 4)
+
+add-zeros : tie.Need-add-zeros
+add-zeros c = omega (arith, c .shared-slice-known5 .given 4)
+
+zeros-requires : tie.Need-zeros-requires
+zeros-requires c κs = search needs
+
+returns-3 : tie.Need-returns-3
+unfolding verdictTold require
+returns-3 c = rw (first-checks-at, ← c .before .before .before .before .before .before .before .before .type-legal .ensures, not-false (c .before .before .before .before .before .before .before .before .type-legal .result) (c .before .before .before .before .before .before .before .if1 .left), ← c .before .before .before .before .first-fits .ensures, not-false (c .before .before .before .before .first-fits .result) (c .before .before .before .if2 .left), ← c .before .zeros .ensures, not-true (c .before .zeros .result) (c .if3 .taken))
+
+returns-4 : tie.Need-returns-4
+unfolding verdictTold require
+returns-4 c = rw (first-checks-at, ← c .before .before .before .before .before .before .before .before .type-legal .ensures, not-false (c .before .before .before .before .before .before .before .before .type-legal .result) (c .before .before .before .before .before .before .before .if1 .left), ← c .before .before .before .before .first-fits .ensures, not-false (c .before .before .before .before .first-fits .result) (c .before .before .before .if2 .left), ← c .before .zeros .ensures, not-false (c .before .zeros .result) (c .if3 .left))
+
+pub first-checks-spec : {M : Type 1} → statement M
+first-checks-spec =
+    tie.close
+    (tie.spec
+    shared-slice-read-t
+    type-legal-requires
+    returns
+    shared-slice-read-first-fits
+    shared-slice-read-first-fits-2
+    first-fits-requires
+    returns-2
+    shared-slice-read-zeros
+    cast-zeros
+    add-zeros
+    zeros-requires
+    returns-3
+    returns-4)

@@ -1,0 +1,299 @@
+-- The laws of reading: what the checks of a message come to, and how the payload of its frames fills the output frame by frame.
+use Prim.Native.Nat.{ℕ, zero, suc, _+_, _-_, _≤_, _<_}
+use mathlib.Core.Bool.{Bool, true, false, cond, _&&_, _||_}
+use mathlib.Core.List.{List, [], _∷_, _++_, append-assoc}
+use mathlib.Core.Path.{_≡_, refl, ap, sym, _∙_}
+use native.Mathlib.Nat.{zero-add}
+use native.Mathlib.Omega.{arith}
+use borrow.Author.Tests.{ne-eqb, eqb-true, leb-true}
+use lib.Dec.{leb, ltb, eqb}
+use lib.ListN.{length, getD, take, drop, length-append, length-drop}
+use lib.Seq.{drop-drop, drop-at, length-take-le, sets, sets-eq}
+use Rattle.message.specs.Answer.{Answer, Check, refused, given, passed, failed, require, after, within, counted, laid, written}
+use Rattle.message.specs.Checks.{idLegal, payloadLegal, errorLegal, fieldChecks, writable, writeChecks}
+use Rattle.message.specs.Kinds.{inside, isAck, isNack, isEvent}
+use Rattle.message.specs.declared.Kind.{Kind}
+use Rattle.message.specs.declared.Kind.the-variants.{Telecommand, TelecommandAck, TelecommandNack, TelemetryRequest, TelemetryResponse, TelemetryNack, Event}
+use Rattle.message.specs.declared.Message.{Message}
+use Rattle.message.proofs.Checks.{require-passed}
+use Rattle.message.proofs.Answers.{too-short, long-enough, after-passed}
+use Rattle.message.proofs.Stores.{sets-append}
+use Rattle.can.specs.Can.{firstChecks, laterChecks, prepend, laterFrames, allFrames, canMessage, complete, canRead, canCarries, canError, kindOfType, canIdLegal, canFits}
+use Rattle.can_frames.specs.Told.{measured}
+use Rattle.can_frames.proofs.Scanning.{payload, counted-given, refused-measured, first-fits, fits-series, all-single, all-series, first-dlc, single-counted, later-passed, passed-dlc}
+
+-- An event's ID is 255; that of another kind is of the kind's range.
+pub can-id-wrong : (k : Kind) (id : ℕ) → cond (isEvent k) (eqb id 255) true ≡ false → canIdLegal k id ≡ false
+unfolding canIdLegal
+can-id-wrong k id e = by (isEvent k) refl
+  where
+    by : (b : Bool) → isEvent k ≡ b → cond (isEvent k) (eqb id 255) (idLegal k id) ≡ false
+    by true q = rw q (rw q at e)
+    by false q = absurd (let z : _≡_ {A = ℕ} 0 1 = cc (rw q at e) in omega arith)
+
+pub can-id-plain : (k : Kind) (id : ℕ) → cond (isEvent k) (eqb id 255) true ≡ true → canIdLegal k id ≡ idLegal k id
+unfolding canIdLegal isEvent idLegal inside
+can-id-plain Telecommand id e = refl
+can-id-plain TelecommandAck id e = refl
+can-id-plain TelecommandNack id e = refl
+can-id-plain TelemetryRequest id e = refl
+can-id-plain TelemetryResponse id e = refl
+can-id-plain TelemetryNack id e = refl
+can-id-plain Event id e = rw (eqb-true id 255 e)
+
+-- The error that CAN reads for a kind is legal, so of the checks of a message to be written 5 and 6 are left.
+error-legal : (k : Kind) → errorLegal k (canError k) ≡ true
+unfolding errorLegal canError isNack isAck inside
+error-legal Telecommand = refl
+error-legal TelecommandAck = refl
+error-legal TelecommandNack = refl
+error-legal TelemetryRequest = refl
+error-legal TelemetryResponse = refl
+error-legal TelemetryNack = refl
+error-legal Event = refl
+
+all-written : (m : Message) → writable canCarries m ≡ true
+unfolding writable
+all-written m = by (isEvent (m .kind))
+  where
+    by : (b : Bool) → cond b true true ≡ true
+    by true = refl
+    by false = refl
+
+pub written-checks : (m : Message) (n : ℕ) → m .error ≡ canError (m .kind)
+    → writeChecks canCarries m n ≡ require (idLegal (m .kind) (m .id)) 5 (require (payloadLegal (m .kind) n) 6 passed)
+unfolding writeChecks fieldChecks require
+written-checks m n e = rw (all-written m, e, error-legal (m .kind))
+
+-- What CAN adds to the checks of the kinds comes behind them.
+checks-failed : (a b x : Bool) (k : ℕ) → require a 5 (require b 6 passed) ≡ failed k → require a 5 (require (b && x) 6 passed) ≡ failed k
+unfolding require
+checks-failed true true x k e = absurd (let z : _≡_ {A = ℕ} 0 1 = cc in omega arith)
+checks-failed true false x k e = e
+checks-failed false b x k e = e
+
+checks-passed : (a b x : Bool) → require a 5 (require b 6 passed) ≡ passed → require a 5 (require (b && x) 6 passed) ≡ require x 6 passed
+unfolding require
+checks-passed true true x e = refl
+checks-passed true false x e = absurd (let z : _≡_ {A = ℕ} 0 1 = cc in omega arith)
+checks-passed false b x e = absurd (let z : _≡_ {A = ℕ} 0 1 = cc in omega arith)
+
+module _ (t : ℕ) (m : Message) (n : ℕ) (kind : m .kind ≡ kindOfType t) (event : cond (isEvent (m .kind)) (eqb (m .id) 255) true ≡ true) (error : m .error ≡ canError (m .kind)) where
+  pub message-failed : (k : ℕ) → writeChecks canCarries m n ≡ failed k → require (canIdLegal (kindOfType t) (m .id)) 5 (require (canFits t n) 6 passed) ≡ failed k
+  unfolding canFits
+  message-failed k e =
+      rw (← kind, can-id-plain (m .kind) (m .id) event)
+      (checks-failed (idLegal (m .kind) (m .id)) (payloadLegal (m .kind) n) (ltb t 7 || ltb 8 n) k (sym (written-checks m n error) ∙ e))
+
+  pub message-passed : writeChecks canCarries m n ≡ passed
+      → require (canIdLegal (kindOfType t) (m .id)) 5 (require (canFits t n) 6 passed) ≡ require (ltb t 7 || ltb 8 n) 6 passed
+  unfolding canFits
+  message-passed e =
+      rw (← kind, can-id-plain (m .kind) (m .id) event)
+      (checks-passed (idLegal (m .kind) (m .id)) (payloadLegal (m .kind) n) (ltb t 7 || ltb 8 n) (sym (written-checks m n error) ∙ e))
+
+module _ {A : Type 0} where
+  pub within-short : (x : Answer A (List ℕ)) (a : A) (n : ℕ) (out : List ℕ) → counted x ≡ given a n → length out < n → within out x ≡ refused 8
+  within-short x a n out e h =
+      let g = counted-given x a n e in
+      ap (within out) (g .0) ∙ too-short out a (payload x) (omega (arith, g .1))
+
+  pub within-long : (x : Answer A (List ℕ)) (a : A) (n : ℕ) (out : List ℕ) → counted x ≡ given a n → n ≤ length out → within out x ≡ x
+  within-long x a n out e h =
+      let g = counted-given x a n e in
+      ap (within out) (g .0) ∙ long-enough out a (payload x) (omega (arith, g .1)) ∙ sym (g .0)
+
+-- Frames that are refused are a message that is refused.
+pub frames-refused : (b : List ℕ) (k : ℕ) → measured (allFrames b) ≡ refused k → canRead b ≡ refused k
+unfolding canRead complete
+frames-refused b k e = rw (refused-measured (allFrames b) k e)
+
+-- Frames that passed their checks, with a payload of n bytes: what is left are the checks of the message.
+abbrev MessageChecks : List ℕ → ℕ → Check
+MessageChecks b n = require (canIdLegal (kindOfType (getD b 3 0)) (getD b 2 0)) 5 (require (canFits (getD b 3 0) n) 6 passed)
+
+no-more : (c : Check) (x : Answer Message (List ℕ)) → after (require true 4 c) x ≡ after c x
+unfolding require
+no-more c x = refl
+
+complete-checked : (b r p : List ℕ) → length r ≡ 0 → complete b (given r p) ≡ after (MessageChecks b (length p)) (given (canMessage b) p)
+unfolding complete
+complete-checked b r p h = rw h (no-more (MessageChecks b (length p)) (given (canMessage b) p))
+
+module _ (b rest : List ℕ) (n : ℕ) (frames : counted (allFrames b) ≡ given rest n) where
+  pub whole-trailing : 0 < length rest → canRead b ≡ refused 4
+  unfolding canRead complete require after
+  whole-trailing h = rw (counted-given (allFrames b) rest n frames .0, ne-eqb (length rest) 0 (λ z. omega (arith, z)))
+
+  whole-checked : length rest ≡ 0 → canRead b ≡ after (MessageChecks b n) (given (canMessage b) (payload (allFrames b)))
+  unfolding canRead
+  whole-checked h =
+      let g = counted-given (allFrames b) rest n frames in
+      ap (complete b) (g .0) ∙ complete-checked b rest (payload (allFrames b)) h ∙ rw (g .1)
+
+  pub whole-failed : (k : ℕ) → length rest ≡ 0 → MessageChecks b n ≡ failed k → canRead b ≡ refused k
+  unfolding after
+  whole-failed k h e = whole-checked h ∙ rw e
+
+  pub whole-passed : length rest ≡ 0 → MessageChecks b n ≡ passed → counted (canRead b) ≡ given (canMessage b) n
+  unfolding after counted
+  whole-passed h e =
+      let all : canRead b ≡ given (canMessage b) (payload (allFrames b)) = whole-checked h ∙ rw e in
+      ap counted all ∙ ap (given (canMessage b)) (counted-given (allFrames b) rest n frames .1)
+
+-- Frames that are given passed the checks of the first.
+pub frames-first : (b rest p : List ℕ) → allFrames b ≡ given rest p → (13 ≤ length b) × (firstChecks (take 13 b) ≡ passed)
+unfolding allFrames
+frames-first b rest p e =
+    let h = after-passed (require (leb 13 (length b)) 1 (firstChecks (take 13 b))) _ rest p e in
+    let h1 = require-passed (leb 13 (length b)) 1 (firstChecks (take 13 b)) (h .0) in
+    (leb-true 13 (length b) (h1 .0), h1 .1)
+
+pub counted-first : (b rest : List ℕ) (n : ℕ) → counted (allFrames b) ≡ given rest n → (13 ≤ length b) × (firstChecks (take 13 b) ≡ passed)
+counted-first b rest n e = frames-first b rest (payload (allFrames b)) (counted-given (allFrames b) rest n e .0)
+
+empty : (l : List ℕ) → length l ≡ 0 → l ≡ []
+empty [] h = refl
+empty (a ∷ l) h = absurd (omega arith)
+
+-- A message that was read is that of its frames, all of the input.
+complete-given : (b : List ℕ) (x : Answer (List ℕ) (List ℕ)) (m : Message) (p : List ℕ) → complete b x ≡ given m p → x ≡ given [] p
+unfolding complete
+complete-given b (refused k) m p e = absurd (let z : _≡_ {A = ℕ} 0 1 = cc in omega arith)
+complete-given b (given r q) m p e =
+    let h = after-passed (require (eqb (length r) 0) 4 (MessageChecks b (length q))) (given (canMessage b) q) m p e in
+    let h4 = require-passed (eqb (length r) 0) 4 (MessageChecks b (length q)) (h .0) in
+    let none : r ≡ [] = empty r (eqb-true (length r) 0 (h4 .0)) in
+    let same : q ≡ p = cc (h .1) in
+    rw (none, same)
+
+module _ (b : List ℕ) (m : Message) (n : ℕ) (told : counted (canRead b) ≡ given m n) where
+  all-given : allFrames b ≡ given [] (payload (canRead b))
+  unfolding canRead
+  all-given = complete-given b (allFrames b) m (payload (canRead b)) (counted-given (canRead b) m n told .0)
+
+  pub read-frames : counted (allFrames b) ≡ given [] n
+  unfolding counted
+  read-frames = ap counted all-given ∙ ap (given []) (counted-given (canRead b) m n told .1)
+
+  pub read-laid : (out : List ℕ) → laid (canRead b) out ≡ laid (allFrames b) out
+  unfolding laid
+  read-laid out = ap (λ (x : Answer Message (List ℕ)). laid x out) (counted-given (canRead b) m n told .0) ∙ sym (ap (λ (x : Answer (List ℕ) (List ℕ)). laid x out) all-given)
+
+  pub read-single : getD b 3 0 < 7 → (5 + n ≤ length b) × ((out : List ℕ) → laid (canRead b) out ≡ take n (drop 5 b) ++ drop n out)
+  unfolding laid
+  read-single h =
+      let f = counted-first b [] n read-frames in
+      let size : getD b 4 0 ≡ n = cc (single-counted b (f .0) (f .1) h, read-frames) in
+      let d = first-dlc b (f .0) (f .1) in
+      let long : length (take n (drop 5 b)) ≡ n = length-take-le n (drop 5 b) (rw length-drop (omega (arith, d, size, f .0))) in
+      (omega (arith, d, size, f .0), λ out. read-laid out ∙ ap (λ (x : Answer (List ℕ) (List ℕ)). laid x out) (all-single b (f .0) (f .1) h) ∙ rw (size, long))
+
+  pub read-lay : (out last : List ℕ) → getD b 3 0 < 7 → n ≤ length out → last ≡ laid (within out (written (take n (drop 5 b)))) out → last ≡ laid (canRead b) out
+  unfolding laid
+  read-lay out last h room e =
+      let s = read-single h in
+      let long : length (take n (drop 5 b)) ≡ n = length-take-le n (drop 5 b) (rw length-drop (omega (arith, s .0))) in
+      let fits : length (take n (drop 5 b)) ≤ length out = omega (arith, long) in
+      e ∙ rw (long-enough out (tt {0}) (take n (drop 5 b)) fits, long) (sym (s .1 out))
+
+-- The payload of so many frames from a place on: all data of each but its count.
+unfoldable pub Run : List ℕ → ℕ → ℕ → List ℕ → Type 0
+Run b zero at p = p ≡ []
+Run b (suc n) at p =
+    (at + 13 ≤ length b) × (1 ≤ getD b (at + 4) 0) × (getD b (at + 4) 0 ≤ 8) × (take (getD b (at + 4) 0 - 1) (drop (at + 5) b) ++ drop (getD b (at + 4) 0 - 1) p ≡ p)
+    × Run b n (at + 13) (drop (getD b (at + 4) 0 - 1) p)
+
+run-more : (b : List ℕ) (n at : ℕ) (q : List ℕ) → at + 13 ≤ length b → 1 ≤ getD b (at + 4) 0 → getD b (at + 4) 0 ≤ 8 → Run b n (at + 13) q
+    → Run b (suc n) at (take (getD b (at + 4) 0 - 1) (drop (at + 5) b) ++ q)
+unfolding Run
+run-more b n at q room low high run =
+    let d = take (getD b (at + 4) 0 - 1) (drop (at + 5) b) in
+    let size : length d ≡ getD b (at + 4) 0 - 1 = length-take-le (getD b (at + 4) 0 - 1) (drop (at + 5) b) (rw length-drop (omega arith)) in
+    let same : drop (getD b (at + 4) 0 - 1) (d ++ q) ≡ q = drop-at d q (getD b (at + 4) 0 - 1) size in
+    (room, low, high, ap (λ (x : List ℕ). d ++ x) same, rw same run)
+
+prepend-given : (d : List ℕ) (x : Answer (List ℕ) (List ℕ)) (r p : List ℕ) → prepend d x ≡ given r p → (x ≡ given r (payload x)) × (d ++ payload x ≡ p)
+unfolding prepend
+prepend-given d (refused k) r p e = absurd (let z : _≡_ {A = ℕ} 0 1 = cc in omega arith)
+prepend-given d (given s q) r p e = (cc, cc)
+
+later-run : (b i : List ℕ) (n at : ℕ) (r p : List ℕ) → laterFrames i n (drop at b) ≡ given r p → Run b n at p
+unfolding Run laterFrames
+later-run b i zero at r p e = cc
+later-run b i (suc n) at r p e =
+    let h = after-passed (require (leb 13 (length (drop at b))) 1 (laterChecks i n (take 13 (drop at b)))) _ r p e in
+    let h1 = require-passed (leb 13 (length (drop at b))) 1 (laterChecks i n (take 13 (drop at b))) (h .0) in
+    let room : 13 ≤ length b - at = rw length-drop at (leb-true 13 (length (drop at b)) (h1 .0)) in
+    let d = passed-dlc b i n at (h1 .1) in
+    let g = prepend-given _ _ r p (sym (later-passed b i n at room (h1 .1)) ∙ e) in
+    rw (← g .1) (run-more b n at (payload (laterFrames i n (drop (at + 13) b))) (omega (arith, room)) (d .0) (d .1) (later-run b i n (at + 13) r _ (g .0)))
+
+pub series-run : (b r p : List ℕ) → allFrames b ≡ given r p → 7 ≤ getD b 3 0 → Run b (suc (getD b 12 0)) 0 p
+series-run b r p e h =
+    let f = frames-first b r p e in
+    let dlc : getD b 4 0 ≡ 8 = fits-series (getD b 3 0) (getD b 4 0) (getD b 12 0) h (first-fits b (f .1)) in
+    let g = prepend-given (take 7 (drop 5 b)) _ r p (sym (all-series b (f .0) (f .1) h) ∙ e) in
+    let m = run-more b (getD b 12 0) 0 (payload (laterFrames (take 4 b) (getD b 12 0) (drop 13 b))) (f .0) (omega (arith, dlc)) (omega (arith, dlc)) (later-run b (take 4 b) (getD b 12 0) 13 r _ (g .0)) in
+    rw (← g .1) (rw dlc at m)
+
+-- What `lay` leaves of an output behind the first bytes are stores from there on.
+pub lay-sets : (d out part : List ℕ) (to : ℕ) → to + length d ≤ length out → part ≡ laid (within (drop to out) (written d)) (drop to out) → take to out ++ part ≡ sets out to d
+unfolding laid
+lay-sets d out part to room e =
+    let fits : length d ≤ length (drop to out) = rw length-drop (omega arith) in
+    let all : part ≡ d ++ drop (length d) (drop to out) = e ∙ rw (long-enough (drop to out) (tt {0}) d fits) in
+    rw (all, sets-eq d out to room, drop-drop, append-assoc)
+
+-- Before a turn of the copy: the rest of the payload, stored from `to` on, makes the output whole.
+pub record Storing (b whole out : List ℕ) (size at to : ℕ) : Type 0 where
+  pub left : ℕ
+  pub rest : List ℕ
+  pub run : Run b left at rest
+  pub fits : to + length rest ≡ size
+  pub same : sets out to rest ≡ whole
+
+pub store-first : (b out : List ℕ) (size : ℕ) → counted (allFrames b) ≡ given [] size → 7 ≤ getD b 3 0 → size ≤ length out → Storing b (laid (allFrames b) out) out size 0 0
+unfolding laid
+store-first b out size e h room =
+    let g = counted-given (allFrames b) [] size e in
+    let p = payload (allFrames b) in
+    let whole : laid (allFrames b) out ≡ p ++ drop (length p) out = ap (λ (x : Answer (List ℕ) (List ℕ)). laid x out) (g .0) in
+    let stored : sets out 0 p ≡ p ++ drop (length p) out = rw (sets-eq p out 0 (omega (arith, g .1)), zero-add) in
+    record { left = suc (getD b 12 0); rest = p; run = series-run b [] p (g .0) h; fits = omega (arith, g .1); same = stored ∙ sym whole }
+
+-- The frame at a place of the copy, and the copy behind it.
+pub record Turn (b whole out : List ℕ) (size at to : ℕ) : Type 0 where
+  pub room : at + 13 ≤ length b
+  pub low : 1 ≤ getD b (at + 4) 0
+  pub high : getD b (at + 4) 0 ≤ 8
+  pub taken : length (take (getD b (at + 4) 0 - 1) (drop (at + 5) b)) ≡ getD b (at + 4) 0 - 1
+  pub within : to + (getD b (at + 4) 0 - 1) ≤ size
+  pub next : Storing b whole (sets out to (take (getD b (at + 4) 0 - 1) (drop (at + 5) b))) size (at + 13) (to + (getD b (at + 4) 0 - 1))
+
+store-turn : (b whole out : List ℕ) (size at to n : ℕ) (p : List ℕ) → Run b n at p → to + length p ≡ size → sets out to p ≡ whole → to < size → Turn b whole out size at to
+unfolding Run
+store-turn b whole out size at to zero p run fits same more = let none : length p ≡ 0 = ap length run in absurd (omega arith)
+store-turn b whole out size at to (suc n) p run fits same more =
+    let k = getD b (at + 4) 0 - 1 in
+    let d = take k (drop (at + 5) b) in
+    let long : length d ≡ k = length-take-le k (drop (at + 5) b) (rw length-drop (omega (arith, run .0, run .2))) in
+    let sizes : length d + length (drop k p) ≡ length p = sym (length-append d (drop k p)) ∙ ap length (run .3) in
+    let parts : sets out to (d ++ drop k p) ≡ sets (sets out to d) (to + k) (drop k p) = sym (sets-append out to d (drop k p)) ∙ ap (λ (x : ℕ). sets (sets out to d) (to + x) (drop k p)) long in
+    let stored : sets (sets out to d) (to + k) (drop k p) ≡ whole = sym parts ∙ ap (sets out to) (run .3) ∙ same in
+    record {
+      room = run .0;
+      low = run .1;
+      high = run .2;
+      taken = long;
+      within = omega (arith, long, sizes);
+      next = record { left = n; rest = drop k p; run = run .4; fits = omega (arith, long, sizes); same = stored };
+    }
+
+pub store-step : (b whole out : List ℕ) (size at to : ℕ) → Storing b whole out size at to → to < size → Turn b whole out size at to
+store-step b whole out size at to s more = store-turn b whole out size at to (s .left) (s .rest) (s .run) (s .fits) (s .same) more
+
+pub store-last : (b whole out : List ℕ) (size at to : ℕ) → Storing b whole out size at to → size ≤ to → out ≡ whole
+store-last b whole out size at to s done =
+    let none : s .rest ≡ [] = empty (s .rest) (omega (arith, s .fits)) in
+    sym (ap (sets out to) none) ∙ s .same

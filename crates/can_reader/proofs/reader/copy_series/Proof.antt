@@ -1,0 +1,122 @@
+-- Carried by the laws of one frame: before a turn the rest of the payload, stored from `to` on, makes the output whole.
+use Prim.Native.Nat.{_+_, _-_, _≤_}
+use mathlib.Core.Path.{_≡_, refl, _∙_}
+use native.Mathlib.Omega.{arith}
+use borrow.Author.Needs.{needs}
+use denote.Ref.{now}
+use borrow.Rule.Slice.PartMut.{putMid}
+use lib.ListN.{length, getD, take, drop}
+use lib.Seq.{sets, length-sets}
+use native.Mathlib.Nat.{add-sub-cancel-left}
+use Rattle.message.specs.Answer.{laid}
+use Rattle.can.specs.Can.{allFrames}
+use Rattle.message.proofs.Parts.{part-from, put-from}
+use Rattle.can_reader.proofs.Reading.{Storing, store-first, store-step, store-last, lay-sets}
+use Rattle.can_reader.proofs.reader.copy_series.Statement.{statement}
+use Rattle.can_reader.proofs.reader.copy_series.Tie as tie
+
+abbrev Inv-loop : tie.InvT-loop
+Inv-loop bytes size out₀ at₀ to₀ out at to = (length out ≡ length out₀) × Storing bytes (laid (allFrames bytes) out₀) out size at to
+
+abbrev μ-loop : tie.MeasureT-loop
+μ-loop bytes size out₀ at₀ to₀ out at to = length bytes - at
+
+loop-holds : tie.Need-loop-holds Inv-loop μ-loop
+loop-holds c = let s = c .before .before in (refl, store-first (now (s .args .bytes)) (now (s .args .out)) (s .args .size) (s .pre .0) (s .pre .1) (s .pre .2))
+
+add-n : tie.Need-add-n Inv-loop μ-loop
+add-n c = let t = store-step _ _ _ _ _ _ (c .before .loop .inv .1) (c .loop-test .taken) in omega arith
+
+shared-slice-read-n : tie.Need-shared-slice-read-n Inv-loop μ-loop
+shared-slice-read-n c = let t = store-step _ _ _ _ _ _ (c .before .before .loop .inv .1) (c .before .loop-test .taken) in omega arith
+
+cast-n : tie.Need-cast-n Inv-loop μ-loop
+cast-n c = let t = store-step _ _ _ _ _ _ (c .before .before .loop .inv .1) (c .before .loop-test .taken) in omega (arith, c .shared-slice-known2 .given (c .before .before .loop .at + 4))
+
+sub-n : tie.Need-sub-n Inv-loop μ-loop
+sub-n c = let t = store-step _ _ _ _ _ _ (c .before .before .loop .inv .1) (c .before .loop-test .taken) in omega arith
+
+add-lay : tie.Need-add-lay Inv-loop μ-loop
+add-lay c = let t = store-step _ _ _ _ _ _ (c .before .before .loop .inv .1) (c .before .loop-test .taken) in omega arith
+
+add-lay-2 : tie.Need-add-lay-2 Inv-loop μ-loop
+add-lay-2 c = let t = store-step _ _ _ _ _ _ (c .before .before .loop .inv .1) (c .before .loop-test .taken) in omega arith
+
+add-lay-3 : tie.Need-add-lay-3 Inv-loop μ-loop
+add-lay-3 c = let t = store-step _ _ _ _ _ _ (c .before .before .loop .inv .1) (c .before .loop-test .taken) in omega arith
+
+sub-lay : tie.Need-sub-lay Inv-loop μ-loop
+sub-lay c = let t = store-step _ _ _ _ _ _ (c .before .before .loop .inv .1) (c .before .loop-test .taken) in omega arith
+
+part-lay-start : tie.Need-part-lay-start Inv-loop μ-loop
+part-lay-start c = let t = store-step _ _ _ _ _ _ (c .before .before .loop .inv .1) (c .before .loop-test .taken) in omega arith
+
+part-lay-end : tie.Need-part-lay-end Inv-loop μ-loop
+part-lay-end c = let t = store-step _ _ _ _ _ _ (c .before .before .loop .inv .1) (c .before .loop-test .taken) in omega arith
+
+sub-lay-2 : tie.Need-sub-lay-2 Inv-loop μ-loop
+sub-lay-2 c = let t = store-step _ _ _ _ _ _ (c .before .before .before .loop .inv .1) (c .before .before .loop-test .taken) in omega (arith, t .within, c .before .before .before .loop .inv .0, c .before .before .before .before .before .before .pre .2)
+
+part-lay-start-2 : tie.Need-part-lay-start-2 Inv-loop μ-loop
+part-lay-start-2 c = let t = store-step _ _ _ _ _ _ (c .before .before .before .loop .inv .1) (c .before .before .loop-test .taken) in omega (arith, t .within, c .before .before .before .loop .inv .0, c .before .before .before .before .before .before .pre .2)
+
+part-lay-end-2 : tie.Need-part-lay-end-2 Inv-loop μ-loop
+part-lay-end-2 c = search needs
+
+lay-requires : tie.Need-lay-requires Inv-loop μ-loop
+lay-requires c κs = search needs
+
+add-to : tie.Need-add-to Inv-loop μ-loop
+add-to c = let t = store-step _ _ _ _ _ _ (c .before .before .before .before .before .before .before .loop .inv .1) (c .before .before .before .before .before .before .loop-test .taken) in omega arith
+
+add-at : tie.Need-add-at Inv-loop μ-loop
+add-at c = let t = store-step _ _ _ _ _ _ (c .before .before .before .before .before .before .before .loop .inv .1) (c .before .before .before .before .before .before .loop-test .taken) in omega arith
+
+loop-less : tie.Need-loop-less Inv-loop μ-loop
+loop-less c = let t = store-step _ _ _ _ _ _ (c .before .before .before .before .before .before .before .loop .inv .1) (c .before .before .before .before .before .before .loop-test .taken) in omega arith
+
+loop-again : tie.Need-loop-again Inv-loop μ-loop
+loop-again c =
+    let s = c .before .before .before .before .before .before .before .before .before .before in
+    let l = c .before .before .before .before .before .before .before .loop in
+    let b = now (s .args .bytes) in
+    let d = take (getD b (l .at + 4) 0 - 1) (drop (l .at + 5) b) in
+    let t = store-step _ _ _ _ _ _ (c .before .before .before .before .before .before .before .loop .inv .1) (c .before .before .before .before .before .before .loop-test .taken) in
+    let room : l .to + length d ≤ length (l .out) = omega (arith, t .taken, t .within, l .inv .0, s .pre .2) in
+    let e = rw (part-from, add-sub-cancel-left) at (c .before .before .lay .ensures .1) in
+    let stored : putMid (l .to) (length (l .out) - l .to) (l .out) (c .before .before .lay .last .1 .0) ≡ sets (l .out) (l .to) d = put-from (l .to) (l .out) _ (omega (arith, room)) ∙ lay-sets d (l .out) _ (l .to) room e in
+    rw stored (length-sets (l .out) (l .to) d ∙ l .inv .0, t .next)
+
+same-length : tie.Need-same-length Inv-loop μ-loop
+same-length c = c .before .loop .inv .0
+
+returns : tie.Need-returns Inv-loop μ-loop
+returns c = store-last _ _ _ _ _ _ (c .before .loop .inv .1) (c .loop-test .left)
+
+pub copy-series-spec : {M : Type 1} → statement M
+copy-series-spec =
+    tie.close
+    (tie.spec
+    Inv-loop
+    μ-loop
+    loop-holds
+    add-n
+    shared-slice-read-n
+    cast-n
+    sub-n
+    add-lay
+    add-lay-2
+    add-lay-3
+    sub-lay
+    part-lay-start
+    part-lay-end
+    sub-lay-2
+    part-lay-start-2
+    part-lay-end-2
+    lay-requires
+    add-to
+    add-at
+    loop-less
+    loop-again
+    same-length
+    returns)

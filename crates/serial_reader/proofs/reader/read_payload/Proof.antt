@@ -1,0 +1,48 @@
+-- Carried by what undoubling leaves in the output, from the place behind the skipped bytes.
+use borrow.Author.Needs.{needs}
+use Prim.Native.Nat.{_-_, _≤_, _<_}
+use mathlib.Core.Path.{_≡_, refl, ap, _∙_}
+use native.Mathlib.Omega.{arith}
+use denote.Ref.{now}
+use lib.ListN.{length, drop, length-drop}
+use Rattle.message.specs.Answer.{readTold, counted, laid, given}
+use Rattle.message.proofs.Answers.{too-short, long-enough}
+use Rattle.stuffing.specs.Stuffing.{frameScan}
+use Rattle.serial_reader.proofs.reader.read_payload.Statement.{statement}
+use Rattle.serial_reader.proofs.reader.read_payload.Tie as tie
+
+sub-length : tie.Need-sub-length
+sub-length c = search needs
+
+returns : tie.Need-returns
+unfolding readTold counted laid
+returns c =
+    let a = c .before .before .before .args in
+    let short : length (now (a .out)) < length (drop (a .skipped) (frameScan (now (a .bytes)) .body)) = rw length-drop (omega (arith, c .before .before .before .pre)) in
+    rw (too-short _ (a .message) _ short) (refl, refl)
+
+skip-requires : tie.Need-skip-requires
+skip-requires c κs = search needs
+
+undouble-requires : tie.Need-undouble-requires
+undouble-requires c κs =
+    let p = c .before .before .before .before .before .pre in
+    let k = c .before .skip .ensures in
+    (k .1 ∙ p .0, rw (k .0, length-drop) (omega (arith, p .1 .0, c .before .before .if1 .left)))
+
+same-length : tie.Need-same-length
+same-length c = search needs
+
+returns-2 : tie.Need-returns-2
+unfolding readTold counted laid
+returns-2 c =
+    let a = c .before .before .before .before .before .before .before .before .args in
+    let p = c .before .before .before .before .before .before .before .before .pre in
+    let body = frameScan (now (a .bytes)) .body in
+    let same : a .count - a .skipped ≡ length (drop (a .skipped) body) = rw length-drop (omega (arith, p .1 .0)) in
+    let long : length (drop (a .skipped) body) ≤ length (now (a .out)) = omega (arith, same, c .before .before .before .before .before .if1 .left) in
+    rw (long-enough _ (a .message) _ long) (ap (given (a .message)) same, rw (c .before .before .before .before .skip .ensures .0) at (c .before .before .undouble .ensures))
+
+pub read-payload-spec : {M : Type 1} → statement M
+read-payload-spec =
+    tie.close (tie.spec sub-length returns skip-requires undouble-requires same-length returns-2)

@@ -1,0 +1,69 @@
+-- Carried by how the scan stopped, and where.
+use borrow.Author.Needs.{needs}
+use mathlib.Core.Path.{_≡_, refl, sym, _∙_}
+use native.Mathlib.Omega.{arith}
+use denote.Ref.{now}
+use borrow.Author.Tests.{eq-eqb, ne-eqb}
+use lib.ListN.{length, drop, length-drop}
+use Rattle.message.specs.Answer.{readTold, require, after, within, counted, laid}
+use Rattle.stuffing.specs.Stuffing.{frameScan}
+use Rattle.serial.specs.Frames.{closed}
+use Rattle.serial_reader.proofs.reader.read_started.Statement.{statement}
+use Rattle.serial_reader.proofs.reader.read_started.Tie as tie
+
+scan-requires : tie.Need-scan-requires
+scan-requires c κs = search needs
+
+enum-told : tie.Need-enum-told
+enum-told c = search needs
+
+enum-told-2 : tie.Need-enum-told-2
+enum-told-2 c = search needs
+
+enum-told-3 : tie.Need-enum-told-3
+enum-told-3 c = search needs
+
+returns : tie.Need-returns
+unfolding closed require after within counted laid readTold
+returns c =
+    let b = now (c .before .before .before .before .before .before .before .args .bytes) in
+    let s = c .before .before .before .before .scan .ensures in
+    let other : (frameScan b .passed ≡ length (drop 2 b) → ⊥) = λ e. c .if1 .taken (omega (arith, s .1, e, length-drop 2 b, c .before .before .before .before .before .before .before .pre)) in
+    rw (← s .0, c .before .before .enum-told3 .given .1, ne-eqb _ _ other) (refl, refl)
+
+read-frame-requires : tie.Need-read-frame-requires
+read-frame-requires c κs = (sym (c .before .before .before .before .before .scan .ensures .0) ∙ c .before .before .before .enum-told3 .given .1, c .before .before .before .before .before .scan .ensures .2)
+
+returns-2 : tie.Need-returns-2
+unfolding closed require after within counted laid readTold
+returns-2 c = rw (← c .before .before .scan .ensures .0, c .enum-told .given .1) (refl, refl)
+
+returns-3 : tie.Need-returns-3
+unfolding closed require after within counted laid readTold
+returns-3 c = rw (← c .before .before .scan .ensures .0, c .enum-told2 .given .1) (refl, refl)
+
+same-length : tie.Need-same-length
+same-length c = search needs
+
+returns-4 : tie.Need-returns-4
+unfolding closed require after
+returns-4 c =
+    let b = now (c .before .before .before .before .before .before .before .before .before .before .before .args .bytes) in
+    let s = c .before .before .before .before .before .before .before .before .scan .ensures in
+    let whole : frameScan b .passed ≡ length (drop 2 b) = omega (arith, s .1, c .before .before .before .before .if1 .left, length-drop 2 b) in
+    rw (← s .0, c .before .before .before .before .before .before .enum-told3 .given .1, eq-eqb _ _ whole) (c .before .before .read-frame .ensures)
+
+pub read-started-spec : {M : Type 1} → statement M
+read-started-spec =
+    tie.close
+    (tie.spec
+    scan-requires
+    enum-told
+    enum-told-2
+    enum-told-3
+    returns
+    read-frame-requires
+    returns-2
+    returns-3
+    same-length
+    returns-4)

@@ -1,0 +1,76 @@
+-- Carried by the steps of a scan: before a turn the rest of the body, stored behind the bytes copied, makes the output whole.
+use Prim.Native.Nat.{_+_, _-_, _<_}
+use mathlib.Core.Path.{_≡_, refl}
+use native.Mathlib.Nat.{add-zero}
+use native.Mathlib.Omega.{arith}
+use borrow.Author.Needs.{needs}
+use lib.ListN.{length, drop, length-set}
+use lib.Seq.{sets}
+use Rattle.stuffing.specs.Stuffing.{scan}
+use Rattle.serial_reader.proofs.Undoubling.{Storing, store-unit, ended-inside, ended-next, plain-unit}
+use Rattle.serial_reader.proofs.undouble.copy_plain.Statement.{statement}
+use Rattle.serial_reader.proofs.undouble.copy_plain.Tie as tie
+
+abbrev Inv-loop : tie.InvT-loop
+Inv-loop bytes from out₀ to n₀ out n = (from + n < length bytes) × (length out ≡ length out₀) × Storing bytes (sets out₀ to (scan (drop from bytes) .body)) out (from + n) (to + n)
+
+abbrev μ-loop : tie.MeasureT-loop
+μ-loop bytes from out₀ to n₀ out n = length bytes - (from + n)
+
+loop-holds : tie.Need-loop-holds Inv-loop μ-loop
+loop-holds c = rw (add-zero (c .args .from), add-zero (c .args .to)) (ended-inside _ _ (c .pre .0), refl, (c .pre .0, c .pre .1, refl))
+
+add-byte : tie.Need-add-byte Inv-loop μ-loop
+add-byte c = search needs
+
+shared-slice-read-byte : tie.Need-shared-slice-read-byte Inv-loop μ-loop
+shared-slice-read-byte c = search needs
+
+same-length : tie.Need-same-length Inv-loop μ-loop
+same-length c = search needs
+
+returns : tie.Need-returns Inv-loop μ-loop
+returns c =
+    let s = c .before .before .loop .inv .2 in
+    (ended-next _ _ (s .0) (c .if1 .taken), c .if1 .taken, s .0, s .1, s .2)
+
+slice-write-out : tie.Need-slice-write-out Inv-loop μ-loop
+slice-write-out c =
+    let l = c .before .before .loop in
+    let a = c .before .before .before .args in
+    store-unit _ _ (l .out) (a .from + l .n) 1 (a .to + l .n) (l .inv .2) (plain-unit _ _ (l .inv .0) (c .if1 .left)) .0
+
+add-out : tie.Need-add-out Inv-loop μ-loop
+add-out c = omega (arith, slice-write-out c)
+
+add-n : tie.Need-add-n Inv-loop μ-loop
+add-n c = search needs
+
+loop-less : tie.Need-loop-less Inv-loop μ-loop
+loop-less c = search needs
+
+loop-again : tie.Need-loop-again Inv-loop μ-loop
+loop-again c =
+    let l = c .before .before .loop in
+    let a = c .before .before .before .args in
+    let h = store-unit _ _ (l .out) (a .from + l .n) 1 (a .to + l .n) (l .inv .2) (plain-unit _ _ (l .inv .0) (c .if1 .left)) in
+    let at : a .from + (l .n + 1) ≡ a .from + l .n + 1 = omega arith in
+    let to : a .to + (l .n + 1) ≡ a .to + l .n + 1 = omega arith in
+    rw (at, to) (ended-inside _ _ (h .1 .0), rw length-set (l .inv .1), h .1)
+
+pub copy-plain-spec : {M : Type 1} → statement M
+copy-plain-spec =
+    tie.close
+    (tie.spec
+    Inv-loop
+    μ-loop
+    loop-holds
+    add-byte
+    shared-slice-read-byte
+    same-length
+    returns
+    add-out
+    slice-write-out
+    add-n
+    loop-less
+    loop-again)

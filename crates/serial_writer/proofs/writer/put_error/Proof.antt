@@ -1,0 +1,72 @@
+-- Carried by the bytes that each count stands for, and the law of one put after another.
+use borrow.Author.Needs.{needs}
+use Prim.Native.Nat.{_+_, _≤_}
+use mathlib.Core.Path.{_≡_, refl}
+use mathlib.Core.List.{[], _∷_}
+use native.Mathlib.Omega.{arith}
+use denote.Ref.{now}
+use lib.ListN.{length}
+use Rattle.message.specs.Body.{errorBytes}
+use Rattle.stuffing.specs.Stuffing.{doubled}
+use Rattle.serial_writer.proofs.Doubling.{length-first, put-more}
+use Rattle.serial_writer.proofs.Writing.{error-none, error-one, error-all}
+use Rattle.serial_writer.proofs.writer.put_error.Statement.{statement}
+use Rattle.serial_writer.proofs.writer.put_error.Tie as tie
+
+one : (c : tie.Then2) → errorBytes (c .before .before .before .before .before .args .message) ≡ c .before .number .result ∷ []
+one c = error-one (c .before .before .before .before .before .args .message) _ (c .before .before .before .error-length .ensures) _ (c .before .number .ensures) (c .if2 .taken)
+
+all : (c : tie.Else2) → errorBytes (c .before .before .before .before .before .args .message) ≡ c .before .number .result ∷ c .before .before .before .before .before .args .message .index ∷ []
+all c = error-all (c .before .before .before .before .before .args .message) _ (c .before .before .before .error-length .ensures) _ (c .before .number .ensures) (c .before .before .if1 .left) (c .if2 .left)
+
+-- Room for both, each as it is doubled.
+room : (c : tie.Else2) → c .before .before .before .before .before .args .at + length (doubled (c .before .number .result ∷ [])) + length (doubled (c .before .before .before .before .before .args .message .index ∷ [])) ≤ length (now (c .before .before .before .before .before .args .out))
+room c = omega (arith, rw (all c) at (c .before .before .before .before .before .pre), length-first (c .before .number .result) (c .before .before .before .before .before .args .message .index ∷ []))
+
+error-length-requires : tie.Need-error-length-requires
+error-length-requires c κs = search needs
+
+returns : tie.Need-returns
+unfolding doubled
+returns c = rw (error-none (c .before .before .before .args .message) _ (c .before .error-length .ensures) (c .if1 .taken)) (omega arith, refl)
+
+number-requires : tie.Need-number-requires
+number-requires c κs = search needs
+
+put-requires : tie.Need-put-requires
+put-requires c κs = rw (one (c .before)) at (c .before .before .before .before .before .before .pre)
+
+same-length : tie.Need-same-length
+same-length c = search needs
+
+returns-2 : tie.Need-returns-2
+returns-2 c = rw (one (c .before .before .before .before)) (c .before .before .put .ensures)
+
+put-requires-2 : tie.Need-put-requires-2
+put-requires-2 c κs = omega (arith, room (c .before))
+
+put-requires-3 : tie.Need-put-requires-3
+put-requires-3 c κs = omega (arith, room (c .before .before .before .before .before), c .before .before .before .put2 .ensures .0, c .before .before .before .put2 .kept .1 .0)
+
+same-length-2 : tie.Need-same-length-2
+same-length-2 c = search needs
+
+returns-3 : tie.Need-returns-3
+returns-3 c =
+    rw (all (c .before .before .before .before .before .before .before .before))
+    (put-more (c .before .before .before .before .before .before .before .before .before .number .result ∷ []) (c .before .before .before .before .before .before .before .before .before .before .before .before .before .args .message .index ∷ []) _ _ _ _ _ _ (c .before .before .before .before .before .before .put2 .ensures) (c .before .before .put3 .ensures))
+
+pub put-error-spec : {M : Type 1} → statement M
+put-error-spec =
+    tie.close
+    (tie.spec
+    error-length-requires
+    returns
+    number-requires
+    put-requires
+    same-length
+    returns-2
+    put-requires-2
+    put-requires-3
+    same-length-2
+    returns-3)

@@ -1,0 +1,90 @@
+-- Carried by the law of one put after another, and that of the start and the tail around them.
+use borrow.Author.Needs.{needs}
+use Prim.Native.Nat.{_+_, _≤_}
+use native.Mathlib.Omega.{arith}
+use denote.Ref.{now}
+use lib.ListN.{length, length-set}
+use Rattle.message.specs.Body.{errorBytes}
+use Rattle.stuffing.specs.Stuffing.{doubled}
+use Rattle.serial.specs.Frames.{rowOf, headFields, frameBytes}
+use Rattle.serial_writer.proofs.Writing.{Stored, frame-size, frame-stored}
+use Rattle.serial_writer.proofs.writer.put_frame.Statement.{statement}
+use Rattle.serial_writer.proofs.writer.put_frame.Tie as tie
+
+-- Room for the four bytes of the start and the tail, and for what stands between them as it is doubled.
+room : (c : tie.Start) → let m = c .args .message in 4 + length (doubled (headFields (c .args .link) (rowOf (m .kind)) m)) + length (doubled (errorBytes m)) + length (doubled (now (c .args .payload))) ≤ length (now (c .args .out))
+room c = rw (frame-size (c .args .link) (c .args .message) (now (c .args .payload))) at (c .pre)
+
+-- What is stored once the payload is put: all but the tail.
+stored : (c : tie.After-slice-known4) → let a = c .before .before .before .before .before .before .before .before .before .before .before .before .before .before .before .before .before .args in Stored (frameBytes (a .link) (a .message) (now (a .payload))) (now (a .out)) (c .before .before .double .last .1 .0) (c .before .before .double .result)
+stored c =
+    let a = c .before .before .before .before .before .before .before .before .before .before .before .before .before .before .before .before .before .args in
+    frame-stored (a .link) (a .message) (now (a .payload)) (now (a .out)) _ _ _ _ _ _
+    (rw (c .before .before .before .before .before .before .before .before .before .before .before .before .before .before .escape .ensures, c .before .before .before .before .before .before .before .before .before .before .before .before .start-byte .ensures, c .before .before .before .before .before .before .before .before .before .before .before .before .before .row-of .ensures) at (c .before .before .before .before .before .before .before .before .before .before .put-fields .ensures))
+    (c .before .before .before .before .before .before .put-error .ensures)
+    (c .before .before .double .ensures)
+
+escape-requires : tie.Need-escape-requires
+escape-requires c κs = search needs
+
+slice-write-out : tie.Need-slice-write-out
+slice-write-out c = omega (arith, room (c .before .before .before))
+
+row-of-requires : tie.Need-row-of-requires
+row-of-requires c κs = search needs
+
+start-byte-requires : tie.Need-start-byte-requires
+start-byte-requires c κs = search needs
+
+slice-write-out-2 : tie.Need-slice-write-out-2
+slice-write-out-2 c = simp length-set (omega (arith, room (c .before .before .before .before .before)))
+
+put-fields-requires : tie.Need-put-fields-requires
+put-fields-requires c κs = simp length-set (omega (arith, room (c .before .before .before .before .before .before)))
+
+put-error-requires : tie.Need-put-error-requires
+put-error-requires c κs = omega (arith, room (c .before .before .before .before .before .before .before .before .before .before), c .before .before .before .put-fields .ensures .0, simp length-set at (c .before .before .before .put-fields .kept .1 .1 .0))
+
+double-requires : tie.Need-double-requires
+double-requires c κs = omega (arith, room (c .before .before .before .before .before .before .before .before .before .before .before .before .before .before), c .before .before .before .before .before .before .before .put-fields .ensures .0, simp length-set at (c .before .before .before .before .before .before .before .put-fields .kept .1 .1 .0), c .before .before .before .put-error .ensures .0, c .before .before .before .put-error .kept .1 .0)
+
+slice-write-out-3 : tie.Need-slice-write-out-3
+slice-write-out-3 c = omega (arith, stored c, c .before .before .before .before .before .before .before .before .before .before .before .before .before .before .before .before .before .pre)
+
+tail-requires : tie.Need-tail-requires
+tail-requires c κs = search needs
+
+add-out : tie.Need-add-out
+add-out c = omega (arith, stored (c .before), c .before .before .before .before .before .before .before .before .before .before .before .before .before .before .before .before .before .before .pre, c .before .before .before .before .before .before .before .before .before .before .before .before .before .before .before .before .before .before .good)
+
+slice-write-out-4 : tie.Need-slice-write-out-4
+slice-write-out-4 c = simp length-set (omega (arith, stored (c .before), c .before .before .before .before .before .before .before .before .before .before .before .before .before .before .before .before .before .before .pre))
+
+add-result : tie.Need-add-result
+add-result c = omega (arith, stored (c .before), c .before .before .before .before .before .before .before .before .before .before .before .before .before .before .before .before .before .before .pre, c .before .before .before .before .before .before .before .before .before .before .before .before .before .before .before .before .before .before .good)
+
+same-length : tie.Need-same-length
+same-length c = simp length-set (stored (c .before) .kept)
+
+returns : tie.Need-returns
+returns c = rw (c .before .before .before .before .before .before .before .before .before .before .before .before .before .before .before .escape .ensures, c .tail .ensures) (stored (c .before) .size, stored (c .before) .whole)
+
+pub put-frame-spec : {M : Type 1} → statement M
+put-frame-spec =
+    tie.close
+    (tie.spec
+    escape-requires
+    slice-write-out
+    row-of-requires
+    start-byte-requires
+    slice-write-out-2
+    put-fields-requires
+    put-error-requires
+    double-requires
+    slice-write-out-3
+    tail-requires
+    add-out
+    slice-write-out-4
+    add-result
+    same-length
+    returns)

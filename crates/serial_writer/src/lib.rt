@@ -1,0 +1,6 @@
+// Writing a message as a frame of UART or RS485, by the rules of `serial`.
+mod double;
+mod start;
+mod writer;
+
+pub use writer::write;
