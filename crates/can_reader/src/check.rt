@@ -81,7 +81,7 @@ pub(crate) fn message_checks(t: u8, message: Message, length: usize) -> Verdict
         events: true,
         untold: true,
     };
-    match message::check_written(carries, message, length) {
+    match checks::check_written(carries, message, length) {
         Verdict::Refused(refusal) => Verdict::Refused(refusal),
         Verdict::Passed => {
             if t < 7 {

@@ -52,7 +52,7 @@ fn read_payload(message: Message, bytes: &[u8], size: usize, out: &mut [u8]) -> 
         return ReadAnswer::Refused(Refusal::OutputTooShort);
     }
     if bytes[3] < 7 {
-        message::lay(&bytes[5..5 + size], out);
+        output::lay(&bytes[5..5 + size], out);
         return ReadAnswer::Message(message, size);
     }
     copy_series(bytes, size, out);
@@ -68,7 +68,7 @@ fn copy_series(bytes: &[u8], size: usize, out: &mut [u8])
     let mut to = 0;
     while to < size {
         let n = bytes[at + 4] as usize - 1;
-        message::lay(&bytes[at + 5..at + 5 + n], &mut out[to..]);
+        output::lay(&bytes[at + 5..at + 5 + n], &mut out[to..]);
         to += n;
         at += 13;
     }

@@ -25,7 +25,7 @@ pub fn write(message: Message, payload: &[u8], out: &mut [u8]) -> WriteAnswer
         events: true,
         untold: true,
     };
-    match message::check_written(carries, message, payload.len()) {
+    match checks::check_written(carries, message, payload.len()) {
         Verdict::Refused(refusal) => WriteAnswer::Refused(refusal),
         Verdict::Passed => write_checked(message, payload, out),
     }

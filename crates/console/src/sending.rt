@@ -25,7 +25,7 @@ pub(crate) fn file(line: &[u8], kept: Kept, file: &mut [u8]) -> Kept {
         crate::print::bad_line();
         return kept;
     }
-    message::lay(crate::input::front(&bytes, n), file);
+    output::lay(crate::input::front(&bytes, n), file);
     crate::print::text(b"ok\n");
     with_file(kept, n)
 }

@@ -51,7 +51,7 @@ fn read_body(kind: Kind, id: u8, body: &[u8], out: &mut [u8]) -> ReadAnswer
         index,
     };
     let message = raw.carried();
-    match message::check_body(message, body.len()) {
+    match checks::check_body(message, body.len()) {
         Verdict::Refused(refusal) => ReadAnswer::Refused(refusal),
         Verdict::Passed => {
             let payload = kind.error_length();
@@ -70,7 +70,7 @@ fn read_payload(message: Message, payload: &[u8], out: &mut [u8]) -> ReadAnswer
     ensures { λ r. ⌜ readTold r ≡ counted (within (now (out .entry)) (given message (now (payload .entry)))) ⌝ }
     ensures { λ _. ⌜ now (out .exit) ≡ laid (within (now (out .entry)) (given message (now (payload .entry)))) (now (out .entry)) ⌝ }
 {
-    match message::lay(payload, out) {
+    match output::lay(payload, out) {
         WriteAnswer::Refused(refusal) => ReadAnswer::Refused(refusal),
         WriteAnswer::Length(n) => ReadAnswer::Message(message, n),
     }
@@ -85,7 +85,7 @@ pub fn write(message: Message, payload: &[u8], out: &mut [u8]) -> WriteAnswer
         events: false,
         untold: false,
     };
-    match message::check_written(carries, message, payload.len()) {
+    match checks::check_written(carries, message, payload.len()) {
         Verdict::Refused(refusal) => WriteAnswer::Refused(refusal),
         Verdict::Passed => write_checked(message, payload, out),
     }
@@ -101,7 +101,7 @@ fn write_checked(message: Message, payload: &[u8], out: &mut [u8]) -> WriteAnswe
     if out.len() < head {
         return WriteAnswer::Refused(Refusal::OutputTooShort);
     }
-    match message::lay(payload, &mut out[head..]) {
+    match output::lay(payload, &mut out[head..]) {
         WriteAnswer::Refused(refusal) => WriteAnswer::Refused(refusal),
         WriteAnswer::Length(n) => {
             put_head(message, out);

@@ -27,7 +27,7 @@ pub fn list(bytes: &[u8], out: &mut [u8]) -> WriteAnswer
     ensures { λ _. ⌜ now (out .exit) ≡ laid (within (now (out .entry)) (written (listing (now (bytes .entry))))) (now (out .entry)) ⌝ }
 {
     if bytes.len() > LONGEST_INPUT {
-        return message::lay(b"input too long\n", out);
+        return output::lay(b"input too long\n", out);
     }
     let mut nothing = [0u8; 0];
     if out.len() < walk(bytes, &mut nothing) {

@@ -1,14 +1,14 @@
 -- The laws of the answer shapes: when an output is long enough, and how a copy fills its start byte by byte.
 use Prim.Native.Nat.{ℕ, suc, _+_, _≤_, _<_}
-use mathlib.Core.Path.{_≡_, refl, _∙_}
+use mathlib.Core.Path.{_≡_, refl, _∙_, ap}
 use mathlib.Core.Bool.{Bool, true, false}
-use mathlib.Core.List.{List, _++_}
+use mathlib.Core.List.{List, [], _∷_, _++_}
 use native.Mathlib.Numerals.{add-one}
 use native.Mathlib.Omega.{arith}
 use borrow.Author.Tests.{le-leb, lt-leb, leb-true, leb-false}
 use lib.Dec.{leb}
-use lib.ListN.{length, getD, set, take, drop}
-use lib.Seq.{drop-cons, take-suc, append-snoc, set-at, length-take-le, take-length}
+use lib.ListN.{length, getD, set, take, drop, length-append}
+use lib.Seq.{drop-cons, take-suc, append-snoc, set-at, length-take-le, take-length, take-at}
 use Rattle.message.specs.declared.Refusal.{Refusal}
 use Rattle.message.specs.declared.WriteAnswer.{WriteAnswer}
 use Rattle.message.specs.declared.WriteAnswer.the-variants.{Refused, Length}
@@ -40,6 +40,41 @@ module _ {A : Type 0} (a : A) (out b : List ℕ) (n : ℕ) where
       by : (t : Bool) → leb (length b) (length out) ≡ t → (length b ≤ length out) × (n ≡ length b)
       by true q = (leb-true _ _ q, cc (rw q at e))
       by false q = absurd (let z : _≡_ {A = ℕ} 0 1 = cc (rw q at e) in omega arith)
+
+-- What was told, and what lies in the output, give back the answer.
+module _ {A : Type 0} (x : Answer A (List ℕ)) where
+  pub counted-refused : (n : ℕ) → counted x ≡ refused n → x ≡ refused n
+  unfolding counted
+  counted-refused n e = by x refl
+    where
+      by : (y : Answer A (List ℕ)) → x ≡ y → x ≡ refused n
+      by (refused k) q = q ∙ cc (rw q at e)
+      by (given a b) q = absurd (let z : _≡_ {A = ℕ} 0 1 = cc (rw q at e) in omega arith)
+
+  -- The bytes at the start of the output.
+  pub counted-given : (out left : List ℕ) → left ≡ laid x out → (a : A) (n : ℕ) → counted x ≡ given a n → (x ≡ given a (take n left)) × (n ≤ length left)
+  unfolding counted laid
+  counted-given out left laid-is a n e = by x refl
+    where
+      by : (y : Answer A (List ℕ)) → x ≡ y → (x ≡ given a (take n left)) × (n ≤ length left)
+      by (refused k) q = absurd (let z : _≡_ {A = ℕ} 0 1 = cc (rw q at e) in omega arith)
+      by (given a′ b) q =
+          let same : given a′ (length b) ≡ given a n = rw q at e in
+          let size : length b ≡ n = cc in
+          let lies = rw q at laid-is in
+          (q ∙ cc (rw (take-at b (drop (length b) out) n size) at (ap (take n) lies)), rw (lies, length-append) (omega arith))
+
+  pub counted-empty : (a : A) → counted x ≡ given a 0 → x ≡ given a []
+  unfolding counted
+  counted-empty a e = by x refl
+    where
+      by : (y : Answer A (List ℕ)) → x ≡ y → x ≡ given a []
+      by (refused k) q = absurd (let z : _≡_ {A = ℕ} 0 1 = cc (rw q at e) in omega arith)
+      by (given a′ []) q = q ∙ cc (rw q at e)
+      by (given a′ (b ∷ bs)) q =
+          let same : given a′ (length (b ∷ bs)) ≡ given a 0 = rw q at e in
+          let size : length (b ∷ bs) ≡ 0 = cc in
+          absurd (omega arith)
 
 -- A refusal leaves the output as it came.
 pub refusal-leaves : {A : Type 0} (x : Answer A (List ℕ)) (n : ℕ) (out : List ℕ) → counted x ≡ refused n → laid x out ≡ out

@@ -8,7 +8,6 @@ use lib.Dec.{eqb}
 use Rattle.message.specs.Kinds.{errorLength, typeNumber, typeKind, isEvent}
 use Rattle.message.specs.declared.Kind.{Kind}
 use Rattle.message.specs.declared.Kind.the-variants.{Telecommand, TelecommandAck, TelecommandNack, TelemetryRequest, TelemetryResponse, TelemetryNack, Event}
-use Rattle.message.specs.declared.TypeKind.{TypeKind}
 use Rattle.message.specs.declared.TypeKind.the-variants.{Known, Unknown}
 
 -- At most an error byte and an index tell the error.

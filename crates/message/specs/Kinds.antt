@@ -6,7 +6,7 @@ use Rattle.message.specs.declared.ErrorByte.the-variants.{Told}
 use Rattle.message.specs.declared.Kind.{Kind}
 use Rattle.message.specs.declared.Kind.the-variants.{Telecommand, TelecommandAck, TelecommandNack, TelemetryRequest, TelemetryResponse, TelemetryNack, Event}
 use Rattle.message.specs.declared.Message.{Message}
-use Rattle.message.specs.declared.table.Range.{Range}
+use Rattle.message.specs.declared.Range.{Range}
 use Rattle.message.specs.declared.TypeKind.{TypeKind}
 use Rattle.message.specs.declared.TypeKind.the-variants.{Known, Unknown}
 

@@ -2,13 +2,8 @@
 //
 // The rules are definitions of `specs/`: `Kinds` (which IDs, lengths and error bytes a kind has), `Checks` (the order of
 // the refusals 5, 6, 7), `Body` (the data on UART, RS485 and CSP) and `Answer` (what a refusal or an answer is).
-mod check;
-mod output;
 mod table;
 
-pub use check::check_body;
-pub use check::check_written;
-pub use output::lay;
 pub use table::type_kind;
 ghost use mathlib.Core.Path.{_≡_};
 ghost use Rattle.message.specs.Answer.{number};
@@ -96,6 +91,9 @@ pub enum WriteAnswer {
     Length(usize),
     Refused(Refusal),
 }
+
+// From the first to the second, both included.
+pub struct Range(pub usize, pub usize);
 
 // What a link carries beside plain messages; a message that it does not carry is refused with 9 when written.
 pub struct Carries {

@@ -1,12 +1,11 @@
 -- What a call told, and what lies in the array that it was lent, give back the answer of its definition.
 use Prim.Native.Nat.{ℕ, _≤_}
 use mathlib.Core.Bool.{Bool, true, false}
-use mathlib.Core.List.{List, [], _∷_}
-use mathlib.Core.Path.{_≡_, refl, sym, _∙_, ap}
+use mathlib.Core.List.{List, []}
+use mathlib.Core.Path.{_≡_, refl, sym, _∙_}
 use native.Mathlib.Omega.{arith}
 use lib.Dec.{leb}
-use lib.ListN.{length, take, drop, length-append}
-use lib.Seq.{take-at}
+use lib.ListN.{length, take}
 use Rattle.message.specs.Answer.{Answer, Check, refused, given, number, passed, failed, require, after, within, counted, laid}
 use Rattle.message.specs.declared.Refusal.{Refusal}
 use Rattle.message.specs.declared.Verdict.{Verdict}
@@ -24,40 +23,6 @@ use Rattle.upload.specs.Sender.{asks, nothing, asked, isRunning, request, reque
 use Rattle.upload.specs.declared.RequestAnswer.{RequestAnswer}
 use Rattle.upload.specs.declared.RequestAnswer.the-variants as RequestAnswer·of
 use Rattle.upload.specs.declared.Sender.{Sender}
-
-module _ {A : Type 0} (x : Answer A (List ℕ)) where
-  pub counted-refused : (n : ℕ) → counted x ≡ refused n → x ≡ refused n
-  unfolding counted
-  counted-refused n e = by x refl
-    where
-      by : (y : Answer A (List ℕ)) → x ≡ y → x ≡ refused n
-      by (refused k) q = q ∙ cc (rw q at e)
-      by (given a b) q = absurd (let z : _≡_ {A = ℕ} 0 1 = cc (rw q at e) in omega arith)
-
-  -- The bytes at the start of the output.
-  pub counted-given : (out left : List ℕ) → left ≡ laid x out → (a : A) (n : ℕ) → counted x ≡ given a n → (x ≡ given a (take n left)) × (n ≤ length left)
-  unfolding counted laid
-  counted-given out left laid-is a n e = by x refl
-    where
-      by : (y : Answer A (List ℕ)) → x ≡ y → (x ≡ given a (take n left)) × (n ≤ length left)
-      by (refused k) q = absurd (let z : _≡_ {A = ℕ} 0 1 = cc (rw q at e) in omega arith)
-      by (given a′ b) q =
-          let same : given a′ (length b) ≡ given a n = rw q at e in
-          let size : length b ≡ n = cc in
-          let lies = rw q at laid-is in
-          (q ∙ cc (rw (take-at b (drop (length b) out) n size) at (ap (take n) lies)), rw (lies, length-append) (omega arith))
-
-  pub counted-empty : (a : A) → counted x ≡ given a 0 → x ≡ given a []
-  unfolding counted
-  counted-empty a e = by x refl
-    where
-      by : (y : Answer A (List ℕ)) → x ≡ y → x ≡ given a []
-      by (refused k) q = absurd (let z : _≡_ {A = ℕ} 0 1 = cc (rw q at e) in omega arith)
-      by (given a′ []) q = q ∙ cc (rw q at e)
-      by (given a′ (b ∷ bs)) q =
-          let same : given a′ (length (b ∷ bs)) ≡ given a 0 = rw q at e in
-          let size : length (b ∷ bs) ≡ 0 = cc in
-          absurd (omega arith)
 
 -- A sender that has nothing to send has ended.
 asked-something : (c : Check) (x : Answer Unit (List ℕ)) (out b : List ℕ) → within out (after c (asked x)) ≡ given nothing b → ⊥

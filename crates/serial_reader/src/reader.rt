@@ -141,7 +141,7 @@ fn read_data(
         index,
     };
     let message = raw.carried();
-    match message::check_body(message, count - head) {
+    match checks::check_body(message, count - head) {
         Verdict::Refused(refusal) => ReadAnswer::Refused(refusal),
         Verdict::Passed => {
             if !source_legal(link, source) {

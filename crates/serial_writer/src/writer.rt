@@ -29,7 +29,7 @@ pub fn write(link: SerialLink, message: Message, payload: &[u8], out: &mut [u8])
     ensures { λ r. ⌜ writeTold r ≡ counted (within (now (out .entry)) (frameWrite link message (now (payload .entry)))) ⌝ }
     ensures { λ _. ⌜ now (out .exit) ≡ laid (within (now (out .entry)) (frameWrite link message (now (payload .entry)))) (now (out .entry)) ⌝ }
 {
-    match message::check_written(carries(link), message, payload.len()) {
+    match checks::check_written(carries(link), message, payload.len()) {
         Verdict::Refused(refusal) => WriteAnswer::Refused(refusal),
         Verdict::Passed => write_checked(link, message, payload, out),
     }

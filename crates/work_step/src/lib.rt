@@ -34,7 +34,7 @@ pub fn work(device: Device, store: &mut [u8]) -> Stepped
     let length = device.frame_length();
     let buffer = device.buffer;
     // There is room, so nothing is refused here.
-    message::lay(&buffer[..length], &mut store[at..]);
+    output::lay(&buffer[..length], &mut store[at..]);
     Stepped {
         device: frame_stored(device),
         verdict: Verdict::Passed,

@@ -1,0 +1,85 @@
+// The checks that reading and writing share, in their order: 9 the link, 5 the ID, 6 the length, 7 the error byte.
+// The rules are definitions of `message`: `Checks` (the rows) and `Kinds` (the ranges).
+mod ranges;
+
+ghost use mathlib.Core.Path.{_≡_};
+ghost use Rattle.message.specs.Answer.{verdictTold};
+ghost use Rattle.message.specs.Checks.{fieldChecks, told, writable, writeChecks, bodyFits, bodyChecks};
+use message::Carries;
+use message::ErrorByte;
+use message::Kind;
+use message::Message;
+use message::Refusal;
+use message::Verdict;
+use ranges::error_legal;
+use ranges::id_legal;
+use ranges::payload_legal;
+
+// The checks 9, 5, 6 and 7 of a message that is to be written with a payload of this length.
+pub fn check_written(link: Carries, message: Message, length: usize) -> Verdict
+    ensures { λ r. ⌜ verdictTold r ≡ writeChecks link message length ⌝ }
+{
+    if !writable(link, message) {
+        return Verdict::Refused(Refusal::NotWritable);
+    }
+    let kind = message.kind;
+    check_fields(message, payload_legal(kind, length))
+}
+
+// The checks 5, 6 and 7 of a message that was read with data of this length, where the link carries the error byte.
+pub fn check_body(message: Message, length: usize) -> Verdict
+    ensures { λ r. ⌜ verdictTold r ≡ bodyChecks message length ⌝ }
+{
+    let kind = message.kind;
+    check_fields(message, body_fits(kind, length))
+}
+
+fn check_fields(message: Message, fits: bool) -> Verdict
+    ensures { λ r. ⌜ verdictTold r ≡ fieldChecks message fits ⌝ }
+{
+    let kind = message.kind;
+    if !id_legal(kind, message.id) {
+        return Verdict::Refused(Refusal::IdOutOfRange);
+    }
+    if !fits {
+        return Verdict::Refused(Refusal::WrongLength);
+    }
+    let error = message.error;
+    if !error_legal(kind, error) {
+        return Verdict::Refused(Refusal::IllegalValue);
+    }
+    Verdict::Passed
+}
+
+fn writable(link: Carries, message: Message) -> bool
+    ensures { λ r. ⌜ r ≡ writable link message ⌝ }
+{
+    let kind = message.kind;
+    if kind.type_number() == 9 {
+        return link.events;
+    }
+    if link.untold {
+        return true;
+    }
+    let error = message.error;
+    told(kind, error)
+}
+
+fn told(kind: Kind, error: ErrorByte) -> bool
+    ensures { λ r. ⌜ r ≡ told kind error ⌝ }
+{
+    match error {
+        ErrorByte::Told(_) => true,
+        ErrorByte::NotTold => kind.error_length() != 2,
+    }
+}
+
+fn body_fits(kind: Kind, length: usize) -> bool
+    ensures { λ r. ⌜ r ≡ bodyFits kind length ⌝ }
+{
+    let tells = kind.error_length();
+    if length < tells {
+        return false;
+    }
+    payload_legal(kind, length - tells)
+}
