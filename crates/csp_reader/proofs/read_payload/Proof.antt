@@ -3,8 +3,8 @@ use borrow.Author.Needs.{needs}
 use mathlib.Core.Path.{ap}
 use Rattle.message.specs.Answer.{refused, given, readTold, counted, laid}
 use Rattle.message.proofs.Answers.{lay-refused, lay-length, too-short, long-enough}
-use Rattle.csp.proofs.read_payload.Statement.{statement}
-use Rattle.csp.proofs.read_payload.Tie as tie
+use Rattle.csp_reader.proofs.read_payload.Statement.{statement}
+use Rattle.csp_reader.proofs.read_payload.Tie as tie
 
 lay-requires : tie.Need-lay-requires
 lay-requires c κs = search needs

@@ -3,11 +3,11 @@ use borrow.Author.Needs.{needs}
 use native.Mathlib.Omega.{arith}
 use lib.ListN.{length-set}
 use Prim.Native.Nat.{_≤_}
 use Rattle.csp.specs.Csp.{cspHead}
 use Rattle.message.specs.Body.{errorBytes}
 use lib.Seq.{take-all}
-use Rattle.csp.proofs.put_head.Statement.{statement}
-use Rattle.csp.proofs.put_head.Tie as tie
+use Rattle.csp_writer.proofs.put_head.Statement.{statement}
+use Rattle.csp_writer.proofs.put_head.Tie as tie
 
 type-number-requires : tie.Need-type-number-requires
 type-number-requires c κs = search needs

@@ -4,9 +4,9 @@ use mathlib.Core.Path.{refl}
 use borrow.Author.Tests.{le-leb, lt-leb}
 use Rattle.message.proofs.Parts.{part-from}
 use Rattle.message.specs.Answer.{readTold, require, after, within, counted, laid}
 use Rattle.csp.specs.Csp.{cspTyped, cspRead}
-use Rattle.csp.proofs.read.Statement.{statement}
-use Rattle.csp.proofs.read.Tie as tie
+use Rattle.csp_reader.proofs.read.Statement.{statement}
+use Rattle.csp_reader.proofs.read.Tie as tie
 
 returns : tie.Need-returns
 unfolding cspRead require after within counted laid readTold

@@ -10,8 +10,8 @@ use Rattle.message.specs.Kinds.{errorLength, carried}
 use Rattle.message.specs.declared.Message.{Message}
 use Rattle.message.proofs.Bodies.{body-room, body-refused, body-given}
 use Rattle.message.proofs.Parts.{part-from}
-use Rattle.csp.proofs.read_body.Statement.{statement}
-use Rattle.csp.proofs.read_body.Tie as tie
+use Rattle.csp_reader.proofs.read_body.Statement.{statement}
+use Rattle.csp_reader.proofs.read_body.Tie as tie
 
 byte-or-zero-requires : tie.Need-byte-or-zero-requires
 byte-or-zero-requires c κs = search needs

@@ -10,10 +10,10 @@ use lib.ListN.{length, length-append, length-drop}
 use Rattle.message.specs.Answer.{writeTold, counted, laid}
 use Rattle.message.proofs.Parts.{part-from, put-from}
 use Rattle.message.proofs.Tables.{error-length-two}
 use Rattle.csp.specs.Csp.{cspHead}
-use Rattle.csp.proofs.Heads.{head-length, behind-refused, behind-length}
-use Rattle.csp.proofs.write_checked.Statement.{statement}
-use Rattle.csp.proofs.write_checked.Tie as tie
+use Rattle.csp_writer.proofs.Heads.{head-length, behind-refused, behind-length}
+use Rattle.csp_writer.proofs.write_checked.Statement.{statement}
+use Rattle.csp_writer.proofs.write_checked.Tie as tie
 
 error-length-requires : tie.Need-error-length-requires
 error-length-requires c κs = search needs

@@ -2,9 +2,9 @@
 use borrow.Author.Needs.{needs}
 use mathlib.Core.Path.{refl}
 use Rattle.message.specs.Answer.{verdictTold, writeTold, after, within, counted, laid}
 use Rattle.csp.specs.Csp.{cspWrite}
-use Rattle.csp.proofs.write.Statement.{statement}
-use Rattle.csp.proofs.write.Tie as tie
+use Rattle.csp_writer.proofs.write.Statement.{statement}
+use Rattle.csp_writer.proofs.write.Tie as tie
 
 check-written-requires : tie.Need-check-written-requires
 check-written-requires c κs = search needs

@@ -3,8 +3,8 @@ use borrow.Author.Needs.{needs}
 use mathlib.Core.Path.{sym}
 use denote.Ref.{now}
 use lib.ListN.{List·getD-eq-default}
-use Rattle.csp.proofs.byte_or_zero.Statement.{statement}
-use Rattle.csp.proofs.byte_or_zero.Tie as tie
+use Rattle.csp_reader.proofs.byte_or_zero.Statement.{statement}
+use Rattle.csp_reader.proofs.byte_or_zero.Tie as tie
 
 shared-slice-read-result : tie.Need-shared-slice-read-result
 shared-slice-read-result c = search needs
