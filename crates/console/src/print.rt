@@ -1,7 +1,7 @@
 // What replay prints.
 use device::Device;
 use device::Phase;
-use digits::HexAnswer;
+use hex::HexAnswer;
 use libc::STDOUT_FILENO;
 use message::ErrorByte;
 use message::Kind;
@@ -38,7 +38,7 @@ pub(crate) fn output(out: &[u8]) {
 // A byte string, of at most 4,096 bytes.
 pub(crate) fn bytes(bytes: &[u8]) {
     let mut space = [0u8; 8192];
-    if let HexAnswer::Length(n) = digits::write_hex(bytes, &mut space) {
+    if let HexAnswer::Length(n) = hex::write_hex(bytes, &mut space) {
         text(crate::input::front(&space, n));
     }
 }

@@ -1,8 +1,8 @@
 // The call that writes CAN frame records.
 use crate::word::MessageWords;
 use crate::word::message_words;
-use digits::HexAnswer;
 use digits::NumberAnswer;
+use hex::HexAnswer;
 use message::WriteAnswer;
 use records::CanFrame;
 
@@ -23,7 +23,7 @@ pub(crate) fn records(line: &[u8]) {
         crate::print::bad_line();
         return;
     };
-    let HexAnswer::Length(n) = digits::read_hex(words::word(line, 8), &mut payload) else {
+    let HexAnswer::Length(n) = hex::read_hex(words::word(line, 8), &mut payload) else {
         crate::print::bad_line();
         return;
     };

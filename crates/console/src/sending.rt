@@ -4,8 +4,8 @@ use crate::keep::with_file;
 use crate::keep::with_sender;
 use crate::word::LinkWord;
 use crate::word::link_word;
-use digits::HexAnswer;
 use digits::NumberAnswer;
+use hex::HexAnswer;
 use upload::HearAnswer;
 use upload::RequestAnswer;
 use upload::StartAnswer;
@@ -17,7 +17,7 @@ pub(crate) fn file(line: &[u8], kept: Kept, file: &mut [u8]) -> Kept {
         crate::print::bad_line();
         return kept;
     }
-    let HexAnswer::Length(n) = digits::read_hex(words::word(line, 1), &mut bytes) else {
+    let HexAnswer::Length(n) = hex::read_hex(words::word(line, 1), &mut bytes) else {
         crate::print::bad_line();
         return kept;
     };
@@ -109,7 +109,7 @@ pub(crate) fn answer(line: &[u8], kept: Kept, file: &[u8]) -> Kept {
         crate::print::bad_line();
         return kept;
     }
-    let HexAnswer::Length(n) = digits::read_hex(words::word(line, 1), &mut bytes) else {
+    let HexAnswer::Length(n) = hex::read_hex(words::word(line, 1), &mut bytes) else {
         crate::print::bad_line();
         return kept;
     };

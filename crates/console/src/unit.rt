@@ -4,8 +4,8 @@ use crate::keep::with_unit;
 use crate::word::LinkWord;
 use crate::word::link_word;
 use device::Outcome;
-use digits::HexAnswer;
 use digits::NumberAnswer;
+use hex::HexAnswer;
 use link::Link;
 use message::Verdict;
 
@@ -93,7 +93,7 @@ pub(crate) fn receive(line: &[u8], kept: Kept, store: &mut [u8]) -> Kept {
         crate::print::bad_line();
         return kept;
     };
-    let HexAnswer::Length(n) = digits::read_hex(words::word(line, 2), &mut bytes) else {
+    let HexAnswer::Length(n) = hex::read_hex(words::word(line, 2), &mut bytes) else {
         crate::print::bad_line();
         return kept;
     };

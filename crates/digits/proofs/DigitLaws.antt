@@ -1,15 +1,15 @@
 -- The laws of digits: when a byte lies in a range, and what the byte at place i makes of the digits from there on.
 use Prim.Native.Nat.{ℕ, zero, suc, _+_, _≤_, _<_}
 use mathlib.Core.Path.{_≡_, refl}
-use mathlib.Core.Bool.{Bool, true, false, _&&_}
+use mathlib.Core.Bool.{Bool, true, false, _&&_, cond}
 use mathlib.Core.List.{List, [], _∷_}
 use native.Mathlib.Numerals.{add-one}
 use native.Mathlib.Omega.{arith}
-use borrow.Author.Tests.{le-leb, lt-leb, lt-ltb, le-ltb, ltb-true}
-use lib.Dec.{leb}
+use borrow.Author.Tests.{le-leb, lt-leb, lt-ltb, le-ltb, ltb-true, ltb-false}
+use lib.Dec.{leb, ltb}
 use lib.ListN.{length, getD, drop}
 use lib.Seq.{drop-cons}
-use Rattle.digits.specs.Digits.{inside, digitValue, isDigit, allDigits}
+use Rattle.digits.specs.Digits.{inside, digitValue, isDigit, allDigits, digitOf}
 
 pub and-false : (t : Bool) → t && false ≡ false
 and-false true = refl
@@ -50,3 +50,20 @@ unfolding allDigits isDigit
 digit-at base [] i h e = absurd (omega arith)
 digit-at base (b ∷ s) zero h e = ltb-true (digitValue b) base (and-left (isDigit base b) (allDigits base s) e)
 digit-at base (b ∷ s) (suc i) h e = digit-at base s i (omega arith) (and-right (isDigit base b) (allDigits base s) e)
+
+-- A printed digit reads back.
+decimal-back : (n : ℕ) → n < 10 → digitValue (48 + n) ≡ n
+unfolding digitValue
+decimal-back n h = rw (in-range (48 + n) 48 57 (omega arith) (omega arith)) (omega arith)
+
+capital-back : (n : ℕ) → 10 ≤ n → n < 16 → digitValue (55 + n) ≡ n
+unfolding digitValue
+capital-back n l h = rw (above-range (55 + n) 48 57 (omega arith), in-range (55 + n) 65 70 (omega arith) (omega arith)) (omega arith)
+
+pub digit-back : (n : ℕ) → n < 16 → digitValue (digitOf n) ≡ n
+unfolding digitOf
+digit-back n h = by (ltb n 10) refl
+  where
+    by : (t : Bool) → ltb n 10 ≡ t → digitValue (cond t (48 + n) (55 + n)) ≡ n
+    by true e = decimal-back n (ltb-true n 10 e)
+    by false e = capital-back n (ltb-false n 10 e) h

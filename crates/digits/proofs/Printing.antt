@@ -11,8 +11,7 @@ use lib.ListN.{length, length-append}
 use Rattle.digits.specs.Digits.{digitValue, isDigit, allDigits, digitOf}
 use Rattle.digits.specs.Numbers.{valueFrom, numberFrom, numberOf, digitsIn, decimal}
 use Rattle.digits.specs.declared.NumberAnswer.the-variants.{Value}
-use Rattle.digits.proofs.DigitLaws.{and-left, and-right}
-use Rattle.digits.proofs.RoundTrip.{digit-back}
+use Rattle.digits.proofs.DigitLaws.{and-left, and-right, digit-back}
 
 digits-enough : (t u n : ℕ) → n < t → n < u → digitsIn t n ≡ digitsIn u n
 unfolding digitsIn

@@ -24,7 +24,7 @@ pub fn read(link: Link, bytes: &[u8], out: &mut [u8]) -> ReadAnswer
         Link::Uart => serial_reader::read(SerialLink::Uart, bytes, out),
         Link::Rs485 => serial_reader::read(SerialLink::Rs485, bytes, out),
         Link::Can => can_reader::read(bytes, out),
-        Link::Csp => csp::read(bytes, out),
+        Link::Csp => csp_reader::read(bytes, out),
     }
 }
 
@@ -37,6 +37,6 @@ pub fn write(link: Link, message: Message, payload: &[u8], out: &mut [u8]) -> Wr
         Link::Uart => serial_writer::write(SerialLink::Uart, message, payload, out),
         Link::Rs485 => serial_writer::write(SerialLink::Rs485, message, payload, out),
         Link::Can => can_writer::write(message, payload, out),
-        Link::Csp => csp::write(message, payload, out),
+        Link::Csp => csp_writer::write(message, payload, out),
     }
 }

@@ -1,7 +1,8 @@
 // Messages of the CubeProduct protocol, and the answers of everything that reads or writes them.
 //
 // The rules are definitions of `specs/`: `Kinds` (which IDs, lengths and error bytes a kind has), `Checks` (the order of
-// the refusals 5, 6, 7), `Body` (the data on UART, RS485 and CSP) and `Answer` (what a refusal or an answer is).
+// the refusals 5, 6, 7), `Body` (the data on UART, RS485 and CSP) and `Answer` (what a refusal or an answer is). The code of
+// `Checks` is the crate `checks`, and bytes reach a lent output by the crate `output`.
 mod table;
 
 pub use table::type_kind;

@@ -6,6 +6,7 @@ use mathlib.Core.Path.{_≡_, refl, sym, _∙_}
 use native.Mathlib.Omega.{arith}
 use lib.Dec.{leb}
 use lib.ListN.{length, take}
+use Rattle.message.proofs.Answers.{counted-refused, counted-given, counted-empty}
 use Rattle.message.specs.Answer.{Answer, Check, refused, given, number, passed, failed, require, after, within, counted, laid}
 use Rattle.message.specs.declared.Refusal.{Refusal}
 use Rattle.message.specs.declared.Verdict.{Verdict}
