@@ -24,7 +24,7 @@ use Rattle.serial.specs.Frames.{frameRead}
 use Rattle.serial.specs.declared.SerialLink.the-variants.{Uart}
 use Rattle.listing.specs.Lines.{kindText, fieldText, idOf, codeOf, line, spaced, lineText}
 use Rattle.listing.specs.Listing.{Found, nothing, frame, hunt, frameLength, said, frameLine, framed, lines, listing, longest}
-use Rattle.listing.specs.declared.line.Field.the-variants.{Number, Dash}
+use Rattle.listing.specs.declared.Field.the-variants.{Number, Dash}
 use Rattle.listing.proofs.Puts.{line-size}
 use Rattle.listing.proofs.Reading.{read-most, read-low}
 use Rattle.listing.proofs.Walks.{Within, hunt-within}

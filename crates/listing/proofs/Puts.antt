@@ -12,7 +12,7 @@ use Rattle.digits.proofs.Printing.{decimal-more}
 use Rattle.digits.specs.Digits.{digitOf}
 use Rattle.digits.specs.Numbers.{decimal}
 use Rattle.listing.specs.Lines.{nameText, fieldText, spaced, lineText}
-use Rattle.listing.specs.declared.line.Line.{Line}
+use Rattle.listing.specs.declared.Line.{Line}
 
 -- What putting s at a place of `out` gives: the place behind it, and the output then.
 abbrev pub Put : List ℕ → ℕ → List ℕ → ℕ → List ℕ → Type 0

@@ -13,11 +13,11 @@ use Rattle.message.specs.Kinds.{errorLength, isEvent}
 use Rattle.message.specs.declared.Kind.{Kind}
 use Rattle.message.specs.declared.Kind.the-variants as Kind·of
 use Rattle.message.specs.declared.Message.{Message}
-use Rattle.listing.specs.declared.line.Field.{Field}
-use Rattle.listing.specs.declared.line.Field.the-variants.{Number, Dash}
-use Rattle.listing.specs.declared.line.Line.{Line}
-use Rattle.listing.specs.declared.line.Name.{Name}
-use Rattle.listing.specs.declared.line.Name.the-variants as Name·of
+use Rattle.listing.specs.declared.Field.{Field}
+use Rattle.listing.specs.declared.Field.the-variants.{Number, Dash}
+use Rattle.listing.specs.declared.Line.{Line}
+use Rattle.listing.specs.declared.Name.{Name}
+use Rattle.listing.specs.declared.Name.the-variants as Name·of
 
 -- The bytes of a text.
 abbrev pub text : String → List ℕ

@@ -30,7 +30,7 @@ fn listed(bytes: &[u8], out: &mut [u8]) -> usize
     ensures { λ r. ⌜ Counts r (now (out .exit)) ⌝ }
     ensures { λ r. ⌜ take r (now (out .exit)) ≡ listing (now (bytes .entry)) ⌝ }
 {
-    match listing::list(bytes, out) {
+    match lister::list(bytes, out) {
         WriteAnswer::Length(n) => n,
         WriteAnswer::Refused(_) => 0,
     }

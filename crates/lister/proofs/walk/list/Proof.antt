@@ -1,0 +1,69 @@
+-- Carried by the count that comes first: each return rewrites with what it came to.
+use Prim.Native.Nat.{_<_, _≤_}
+use mathlib.Core.Path.{refl, ap}
+use borrow.Author.Needs.{needs}
+use borrow.Author.Tests.{lt-leb}
+use denote.Ref.{now}
+use lib.ListN.{length}
+use Rattle.message.proofs.Answers.{too-short, long-enough}
+use Rattle.message.proofs.Stores.{sets-start}
+use Rattle.message.specs.Answer.{given, counted, laid, writeTold}
+use Rattle.listing.specs.Listing.{listing}
+use Rattle.lister.proofs.walk.list.Statement.{statement}
+use Rattle.lister.proofs.walk.list.Tie as tie
+
+slice-aggregate-lay : tie.Need-slice-aggregate-lay
+slice-aggregate-lay c = search needs
+
+lay-requires : tie.Need-lay-requires
+lay-requires c κs = search needs
+
+same-length : tie.Need-same-length
+same-length c = search needs
+
+returns : tie.Need-returns
+unfolding listing
+returns c = rw (lt-leb (length (now (c .before .before .before .before .before .before .before .before .args .bytes))) 65536 (c .before .before .before .before .before .if1 .taken)) (c .before .before .lay .ensures)
+
+slice-aggregate-walk : tie.Need-slice-aggregate-walk
+slice-aggregate-walk c = search needs
+
+walk-requires : tie.Need-walk-requires
+walk-requires c κs = search needs
+
+returns-2 : tie.Need-returns-2
+unfolding counted laid writeTold
+returns-2 c =
+    let a = c .before .before .before .before .before .before .before .args in
+    let short : length (now (a .out)) < length (listing (now (a .bytes))) = rw (c .before .before .walk .ensures .0) at (c .if2 .taken) in
+    rw (too-short (now (a .out)) (tt {0}) _ short) (refl, refl)
+
+walk-requires-2 : tie.Need-walk-requires-2
+walk-requires-2 c κs = search needs
+
+same-length-2 : tie.Need-same-length-2
+same-length-2 c = search needs
+
+returns-3 : tie.Need-returns-3
+unfolding counted laid writeTold
+returns-3 c =
+    let a = c .before .before .before .before .before .before .before .before .before .before .before .args in
+    let w = c .before .before .walk2 .ensures in
+    let fits : length (listing (now (a .bytes))) ≤ length (now (a .out)) = rw (c .before .before .before .before .before .before .walk .ensures .0) at (c .before .before .before .before .if2 .left) in
+    rw (long-enough (now (a .out)) (tt {0}) _ fits)
+    (ap (given (tt {0})) (w .0), rw (w .1) (sets-start (listing (now (a .bytes))) (now (a .out)) fits))
+
+pub list-spec : {M : Type 1} → statement M
+list-spec =
+    tie.close
+    (tie.spec
+    slice-aggregate-lay
+    lay-requires
+    same-length
+    returns
+    slice-aggregate-walk
+    walk-requires
+    returns-2
+    walk-requires-2
+    same-length-2
+    returns-3)
