@@ -1,4 +1,5 @@
 pub mod Checks
 pub mod Frames
+pub mod Lengths
 pub mod RoundTrip
 pub mod Series

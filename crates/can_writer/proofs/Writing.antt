@@ -1,25 +1,19 @@
--- The laws of frames: their lengths, and how a run of stores lays one part behind another.
-use Rattle.message.specs.Kinds.{isEvent}
-use lib.Dec.{ltb}
-use borrow.Author.Tests.{ltb-false}
-use mathlib.Core.Bool.{Bool, true, false, _||_}
-use Prim.Native.Nat.{ℕ, zero, suc, _+_, _-_, _*_, _/_, _≤_, _<_}
+-- How frames are stored: a run of stores lays one part behind another.
+use Prim.Native.Nat.{ℕ, zero, suc, _+_, _-_, _*_, _≤_, _<_}
 use mathlib.Core.List.{List, [], _∷_, _++_, append-assoc}
 use mathlib.Core.Path.{_≡_, refl, _∙_, sym, ap}
 use native.Mathlib.Numerals.{add-one}
 use native.Mathlib.Omega.{arith}
-use lib.ListN.{length, getD, set, take, drop, replicate, length-append, length-drop, length-replicate, drop-of-length-le}
+use lib.ListN.{length, getD, set, take, drop, replicate, length-append, length-drop, drop-of-length-le}
 use lib.Seq.{sets, drop-cons, length-take-le, drop-drop}
 use Rattle.message.specs.Answer.{given, written, writeTold, within, counted, laid}
-use Rattle.message.specs.declared.Kind.{Kind}
-use Rattle.message.specs.declared.Kind.the-variants as Kind·of
-use Rattle.message.specs.declared.Message.{Message}
 use Rattle.message.specs.declared.Refusal.the-variants.{OutputTooShort}
 use Rattle.message.specs.declared.WriteAnswer.the-variants.{Refused, Length}
 use Rattle.message.proofs.Answers.{too-short, long-enough}
 use Rattle.message.proofs.Parts.{part-from}
 use Rattle.message.proofs.Stores.{sets-append, sets-start}
-use Rattle.can.specs.Can.{identifier, frame, series, framesBehind, inSeries}
+use Rattle.can.specs.Can.{frame, series}
+use Rattle.can.proofs.Lengths.{frame-length}
 
 -- A turn of a loop that stores `s` byte by byte, and its end.
 module _ (s out : List ℕ) (at i : ℕ) where
@@ -31,24 +25,7 @@ module _ (s out : List ℕ) (at i : ℕ) where
   pub store-end : length s ≤ i → sets out (at + i) (drop i s) ≡ out
   store-end h = rw (drop-of-length-le s h)
 
-pub identifier-length : (t : ℕ) (m : Message) → length (identifier t m) ≡ 4
-unfolding identifier
-identifier-length t m = refl
-
--- A frame takes 13 bytes, and a series 13 for each of its frames.
 module _ (i : List ℕ) (four : length i ≡ 4) where
-  pub frame-length : (d : List ℕ) → length d ≤ 8 → length (frame i d) ≡ 13
-  unfolding frame
-  frame-length d h = simp (length-append, length-replicate) (omega arith)
-
-  pub series-length : (n : ℕ) (p : List ℕ) → n * 7 ≤ length p → length p < n * 7 + 7 → length (series i n p) ≡ 13 * (n + 1)
-  unfolding series
-  series-length zero p l h = frame-length (p ++ (0 ∷ [])) (rw length-append (omega arith))
-  series-length (suc n) p l h =
-      let first = frame-length (take 7 p ++ (suc n ∷ [])) (rw (length-append, length-take-le 7 p (omega arith)) (omega arith)) in
-      let behind = series-length n (drop 7 p) (rw length-drop (omega arith)) (rw length-drop (omega arith)) in
-      rw (length-append, first, behind) (omega arith)
-
   -- The head, the data and the zeros, each stored behind the last, are the frame.
   pub frame-stored : (d out head filled left : List ℕ) (at : ℕ)
       → head ≡ sets out at (i ++ (length d ∷ [])) → filled ≡ sets head (at + 5) d → left ≡ sets filled (at + 5 + length d) (replicate (8 - length d) 0)
@@ -78,7 +55,7 @@ module _ (i : List ℕ) (four : length i ≡ 4) where
   series-more p out next at zero h l e = absurd (omega arith)
   series-more p out next at (suc n) h l e =
       let f = frame i (take 7 p ++ (suc n ∷ [])) in
-      let size = frame-length (take 7 p ++ (suc n ∷ [])) (rw (length-append, length-take-le 7 p l) (omega arith)) in
+      let size = frame-length i four (take 7 p ++ (suc n ∷ [])) (rw (length-append, length-take-le 7 p l) (omega arith)) in
       let joined : sets (sets out at f) (at + length f) (series i n (drop 7 p)) ≡ sets out at (f ++ series i n (drop 7 p)) = sets-append out at f (series i n (drop 7 p)) in
       let back : suc n - 1 ≡ n = omega arith in
       rw (e, back) (rw size at joined)
@@ -109,11 +86,6 @@ module _ (i : List ℕ) (four : length i ≡ 4) (out₀ p out next : List ℕ) (
   unfolding series
   series-end z e = (rw part-from at e) ∙ (rw z at (going .whole))
 
--- As many frames behind the first as there are whole sevens in the payload's length.
-pub message-length : (t : ℕ) (m : Message) (p : List ℕ) → length (series (identifier t m) (framesBehind (length p)) p) ≡ 13 * (length p / 7 + 1)
-unfolding framesBehind
-message-length t m p = series-length (identifier t m) (identifier-length t m) (length p / 7) p (omega arith) (omega arith)
-
 -- The answer where the bytes do not fit, and where they were stored from the start on.
 module _ (b out : List ℕ) (n : ℕ) (size : length b ≡ n) where
   pub refused-short : length out < n → (writeTold (Refused OutputTooShort) ≡ counted (within out (written b))) × (out ≡ laid (within out (written b)) out)
@@ -125,12 +97,3 @@ module _ (b out : List ℕ) (n : ℕ) (size : length b ≡ n) where
   given-stored left h e =
       let fits : length b ≤ length out = rw size h in
       rw (long-enough out (tt {0}) b fits) (ap (given (tt {0})) (sym size), e ∙ sets-start b out fits)
-
--- What goes as a single frame has at most 8 bytes.
-pub single-most : (k : Kind) (n : ℕ) → inSeries k n ≡ false → n ≤ 8
-unfolding inSeries
-single-most k n e = ltb-false 8 n (by (isEvent k) e)
-  where
-    by : (t : Bool) → t || ltb 8 n ≡ false → ltb 8 n ≡ false
-    by true q = absurd (let z : _≡_ {A = ℕ} 0 1 = cc in omega arith)
-    by false q = q

@@ -8,7 +8,6 @@ use lib.Dec.{leb}
 use lib.ListN.{length}
 use Rattle.message.specs.Answer.{Answer, refused, given, number, require, after, within, counted, laid, writeTold}
 use Rattle.message.specs.declared.Kind.{Kind}
-use Rattle.message.specs.declared.Kind.the-variants as Kind·of
 use Rattle.message.specs.declared.Message.{Message}
 use Rattle.message.specs.declared.Refusal.{Refusal}
 use Rattle.message.specs.declared.WriteAnswer.the-variants as WriteAnswer·of

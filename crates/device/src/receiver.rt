@@ -25,7 +25,7 @@ pub fn receive(device: Device, bytes: &[u8], store: &[u8], out: &mut [u8]) -> Re
 {
     let link = device.link;
     let mut payload = [0u8; 256];
-    let ReadAnswer::Message(message, length) = link::read(link, bytes, &mut payload) else {
+    let ReadAnswer::Message(message, length) = link_reader::read(link, bytes, &mut payload) else {
         return silence(device);
     };
     if !is_taken(link, device.own, message) {
@@ -122,7 +122,7 @@ fn send(before: Device, next: Device, answer: Message, payload: &[u8], out: &mut
     ensures { λ _. ⌜ now (out .exit) ≡ laid (within (now (out .entry)) (answered next (linkWrite (before .link) answer (now (payload .entry))))) (now (out .entry)) ⌝ }
 {
     let link = before.link;
-    match link::write(link, answer, payload, out) {
+    match link_writer::write(link, answer, payload, out) {
         WriteAnswer::Length(n) => Received {
             device: next,
             outcome: Outcome::Answer(n),

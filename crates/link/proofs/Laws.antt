@@ -18,17 +18,17 @@ use Rattle.message.specs.declared.Message.{Message}
 use Rattle.message.proofs.Answers.{after-given, after-passed}
 use Rattle.message.proofs.Checks.{require-passed, both-true, fields-passed}
 use Rattle.message.proofs.Checks as checks
-use Rattle.can.specs.Can.{seriesType, identifier, frame, inSeries, canBytes, canCarries, canWrite, allFrames, complete, canRead}
-use Rattle.can_writer.proofs.Writing.{identifier-length, frame-length, message-length, single-most}
+use Rattle.can.specs.Can.{seriesType, identifier, inSeries, canBytes, canCarries, canWrite, allFrames, complete, canRead}
+use Rattle.can.proofs.Lengths.{identifier-length, frame-length, message-length, single-most}
 use Rattle.csp.specs.Csp.{cspHead, cspCarries, cspRead, cspWrite}
 use Rattle.serial.specs.Frames.{rowOf, headLength, headFields, sourceLegal, carries, frameBytes, frameRead, frameWrite}
 use Rattle.serial.specs.declared.Row.{Row}
 use Rattle.serial.specs.declared.Row.the-variants as Row·of
 use Rattle.serial.specs.declared.SerialLink.{SerialLink}
 use Rattle.serial.specs.declared.SerialLink.the-variants as SerialLink·of
-use Rattle.serial_writer.proofs.Doubling.{doubled-most}
+use Rattle.stuffing.proofs.Doubling.{doubled-most}
 use Rattle.serial.proofs.Tables.{head-length-three, fields-length}
-use Rattle.serial_writer.proofs.Writing.{frame-size}
+use Rattle.serial.proofs.Lengths.{frame-size}
 use Rattle.link.specs.Link.{linkRead, linkWrite, mostBytes}
 use Rattle.link.specs.declared.Link.{Link}
 use Rattle.link.specs.declared.Link.the-variants.{Uart, Rs485, Can, Csp}

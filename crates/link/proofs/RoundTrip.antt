@@ -4,7 +4,7 @@ use mathlib.Core.Bool.{false}
 use mathlib.Core.List.{List}
 use mathlib.Core.Path.{_≡_, refl}
 use lib.ListN.{length}
-use Rattle.message.specs.Answer.{given, within, written}
+use Rattle.message.specs.Answer.{given, written}
 use Rattle.message.specs.Checks.{writable, writeChecks}
 use Rattle.message.specs.Kinds.{isEvent, carried}
 use Rattle.message.specs.declared.Kind.{Kind}

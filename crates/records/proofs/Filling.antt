@@ -20,7 +20,7 @@ use Rattle.message.specs.Checks.{writeChecks}
 use Rattle.message.specs.Kinds.{typeNumber}
 use Rattle.message.proofs.Answers.{long-enough, after-given}
 use Rattle.can.specs.Can.{seriesType, identifier, inSeries, canBytes, canCarries, canWrite}
-use Rattle.can_writer.proofs.Writing.{identifier-length, frame-length, message-length, single-most}
+use Rattle.can.proofs.Lengths.{identifier-length, frame-length, message-length, single-most}
 use Rattle.link.specs.Link.{linkWrite}
 use Rattle.link.specs.declared.Link.the-variants.{Can}
 use Rattle.link.proofs.Laws.{bytes-most}

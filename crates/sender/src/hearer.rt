@@ -29,7 +29,7 @@ fn meaning(sender: Sender, file: &[u8], answer: &[u8]) -> Meaning
 {
     let link = sender.link;
     let mut payload = [0u8; 256];
-    let ReadAnswer::Message(message, length) = link::read(link, answer, &mut payload) else {
+    let ReadAnswer::Message(message, length) = link_reader::read(link, answer, &mut payload) else {
         return Meaning::Stay;
     };
     meanings::message_meaning(sender, file, message, &payload[..length])

@@ -50,7 +50,7 @@ fn send(link: Link, message: Message, payload: &[u8], out: &mut [u8]) -> Request
     ensures { λ r. ⌜ requestTold r ≡ counted (within (now (out .entry)) (asked (linkWrite link message (now (payload .entry))))) ⌝ }
     ensures { λ _. ⌜ now (out .exit) ≡ laid (within (now (out .entry)) (asked (linkWrite link message (now (payload .entry))))) (now (out .entry)) ⌝ }
 {
-    match link::write(link, message, payload, out) {
+    match link_writer::write(link, message, payload, out) {
         WriteAnswer::Length(n) => RequestAnswer::Request(n),
         WriteAnswer::Refused(refusal) => RequestAnswer::Refused(refusal),
     }

@@ -1,2 +1,2 @@
-pub mod Doubling
+pub mod Putting
 pub mod Writing

@@ -1,24 +1,23 @@
--- The laws of a frame's parts: which fields it has, its length, and what a run of stores leaves.
+-- The laws of a frame's parts: which fields it has, and what a run of stores leaves.
 use Prim.Native.Nat.{ℕ, zero, suc, _+_}
-use mathlib.Core.List.{List, [], _∷_, _++_, append-assoc}
+use mathlib.Core.List.{List, [], _∷_, _++_}
 use mathlib.Core.Path.{_≡_, refl, _∙_}
 use native.Mathlib.Numerals.{add-one}
 use native.Mathlib.Omega.{arith}
 use lib.ListN.{length, set, length-append, length-set}
 use lib.Seq.{sets, length-sets, take-all}
-use Rattle.message.specs.Body.{errorNumber, errorBytes, bodyBytes}
+use Rattle.message.specs.Body.{errorNumber, errorBytes}
 use Rattle.message.specs.Kinds.{errorLength}
-use Rattle.message.specs.declared.Kind.{Kind}
-use Rattle.message.specs.declared.Kind.the-variants as Kind·of
 use Rattle.message.specs.declared.Message.{Message}
 use Rattle.stuffing.specs.Stuffing.{doubled}
 use Rattle.serial.specs.Frames.{startByte, rowOf, headLength, headFields, frameBytes}
+use Rattle.serial.proofs.Lengths.{frame-parts}
 use Rattle.serial.specs.declared.Row.{Row}
 use Rattle.serial.specs.declared.Row.the-variants.{Request, Reply, Nack, Event}
 use Rattle.serial.specs.declared.SerialLink.{SerialLink}
 use Rattle.serial.specs.declared.SerialLink.the-variants.{Uart, Rs485}
 use Rattle.message.proofs.Stores.{sets-append}
-use Rattle.serial_writer.proofs.Doubling.{doubled-append, Put, put-more}
+use Rattle.serial_writer.proofs.Putting.{Put, put-more}
 
 -- The fields by their count: none, the ID, or the ID and both addresses.
 abbrev fieldsOf : ℕ → Message → List ℕ
@@ -76,17 +75,9 @@ pub record Stored (frame out left : List ℕ) (n : ℕ) : Type 0 where
   pub kept : length left ≡ length out
   pub whole : set (set left n 0x1F) (n + 1) 0xFF ≡ sets out 0 frame
 
--- The parts of a frame.
 module _ (l : SerialLink) (m : Message) (p : List ℕ) where
   abbrev fields : List ℕ
   fields = headFields l (rowOf (m .kind)) m
-
-  frame-parts : frameBytes l m p ≡ 0x1F ∷ startByte l (rowOf (m .kind)) ∷ (doubled ((fields ++ errorBytes m) ++ p) ++ (0x1F ∷ 0xFF ∷ []))
-  unfolding frameBytes bodyBytes
-  frame-parts = rw append-assoc
-
-  pub frame-size : length (frameBytes l m p) ≡ 4 + length (doubled (headFields l (rowOf (m .kind)) m)) + length (doubled (errorBytes m)) + length (doubled p)
-  frame-size = rw frame-parts (simp (length-append, doubled-append) (omega arith))
 
   -- The start, what was put behind it part by part, and the tail.
   pub frame-stored : (out first second left : List ℕ) (i j n : ℕ)

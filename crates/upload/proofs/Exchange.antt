@@ -7,7 +7,7 @@ use mathlib.Core.Path.{_≡_, refl, sym}
 use borrow.Author.Tests.{eq-eqb}
 use lib.Dec.{eqb}
 use lib.ListN.{length}
-use Rattle.message.specs.Answer.{given, passed}
+use Rattle.message.specs.Answer.{passed}
 use Rattle.message.specs.Checks.{payloadLegal, fieldChecks, told}
 use Rattle.message.specs.Kinds.{isEvent, isNack}
 use Rattle.message.specs.declared.ErrorByte.the-variants.{Told}

@@ -9,7 +9,6 @@ use lib.ListN.{length}
 use Rattle.message.specs.Answer.{given, require}
 use Rattle.link.specs.Link.{linkRead}
 use Rattle.device_state.specs.declared.Device.{Device}
-use Rattle.work_step.specs.Work.{work}
 use Rattle.device.specs.Answers.{afterReceive}
 use Rattle.device.specs.Receive.{answers, receive}
 use Rattle.upload.specs.Round.{meaning, roundOver, hear}

@@ -11,7 +11,6 @@ use Rattle.link.specs.Link.{mostBytes}
 use Rattle.link.specs.declared.Link.{Link}
 use Rattle.link.specs.declared.Link.the-variants.{Uart, Rs485, Can, Csp}
 use Rattle.device_state.specs.declared.Device.{Device}
-use Rattle.work_step.specs.Work.{work}
 use Rattle.device.specs.Receive.{answers, receive}
 use Rattle.upload.specs.Round.{hear}
 use Rattle.upload.specs.Sender.{isRunning, checked, sameFile, request}

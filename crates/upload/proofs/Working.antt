@@ -15,7 +15,7 @@ use Rattle.device_state.specs.declared.Device.{Device}
 use Rattle.work_step.specs.Work.{frameStored, hasRoom, work, storeAfter, afterWork}
 use Rattle.upload.specs.declared.Stage.{Stage}
 use Rattle.upload.specs.declared.Stage.the-variants.{Frame, Back, Compare, Take, Confirm}
-use Rattle.upload.specs.Stored.{Mark, stored, markWorked}
+use Rattle.upload.specs.Stored.{Mark, markWorked}
 use Rattle.upload.specs.World.{isRefusal}
 use Rattle.upload.proofs.Files.{stored-next, size-reached, beginning-length, store-next}
 use Rattle.upload.proofs.Situations.{unitAt}

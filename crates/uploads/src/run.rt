@@ -87,7 +87,7 @@ fn opened(link: Link, size: usize, store: &[u8]) -> Device {
     };
     let mut request = [0u8; 64];
     let bytes = little_endian::u32_to_bytes(length(size));
-    match link::write(link, setup, &bytes, &mut request) {
+    match link_writer::write(link, setup, &bytes, &mut request) {
         WriteAnswer::Length(n) => taken(unit, space::front(&request, n), store),
         WriteAnswer::Refused(_) => unit,
     }

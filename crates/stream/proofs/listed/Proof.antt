@@ -1,10 +1,9 @@
 -- Carried by the bound on a listing's length: a refusal can't occur.
-use Prim.Native.Nat.{_≤_}
 use mathlib.Core.Path.{_≡_}
 use native.Mathlib.Omega.{arith}
 use borrow.Author.Needs.{needs}
 use denote.Ref.{now}
-use lib.ListN.{length, take, length-append}
+use lib.ListN.{take, length-append}
 use lib.Seq.{take-append-seam}
 use Rattle.message.proofs.Answers.{lay-refused, lay-length}
 use Rattle.listing.proofs.Bound.{listing-longest}

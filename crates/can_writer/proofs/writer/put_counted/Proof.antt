@@ -4,7 +4,8 @@ use native.Mathlib.Omega.{arith}
 use denote.Ref.{now}
 use lib.ListN.{length-set}
 use Rattle.can.specs.Can.{identifier}
-use Rattle.can_writer.proofs.Writing.{identifier-length, counted-stored}
+use Rattle.can.proofs.Lengths.{identifier-length}
+use Rattle.can_writer.proofs.Writing.{counted-stored}
 use Rattle.can_writer.proofs.writer.put_counted.Statement.{statement}
 use Rattle.can_writer.proofs.writer.put_counted.Tie as tie
 

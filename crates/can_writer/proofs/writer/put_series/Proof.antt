@@ -4,7 +4,8 @@ use native.Mathlib.Omega.{arith}
 use denote.Ref.{now}
 use lib.ListN.{length-take, length-drop}
 use Rattle.can.specs.Can.{identifier}
-use Rattle.can_writer.proofs.Writing.{identifier-length, Going, series-turn, series-end}
+use Rattle.can.proofs.Lengths.{identifier-length}
+use Rattle.can_writer.proofs.Writing.{Going, series-turn, series-end}
 use Rattle.can_writer.proofs.writer.put_series.Statement.{statement}
 use Rattle.can_writer.proofs.writer.put_series.Tie as tie
 

@@ -2,7 +2,8 @@
 use borrow.Author.Needs.{needs}
 use denote.Ref.{now}
 use Rattle.can.specs.Can.{identifier}
-use Rattle.can_writer.proofs.Writing.{identifier-length, frame-stored}
+use Rattle.can.proofs.Lengths.{identifier-length}
+use Rattle.can_writer.proofs.Writing.{frame-stored}
 use Rattle.can_writer.proofs.writer.put_single.Statement.{statement}
 use Rattle.can_writer.proofs.writer.put_single.Tie as tie
 

@@ -2,7 +2,7 @@
 use borrow.Author.Needs.{needs}
 use mathlib.Core.Path.{sym, _∙_}
 use Rattle.can.specs.Can.{canBytes}
-use Rattle.can_writer.proofs.Writing.{single-most}
+use Rattle.can.proofs.Lengths.{single-most}
 use Rattle.can_writer.proofs.writer.write_checked.Statement.{statement}
 use Rattle.can_writer.proofs.writer.write_checked.Tie as tie
 

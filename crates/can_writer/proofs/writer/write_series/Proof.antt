@@ -2,7 +2,8 @@
 use borrow.Author.Needs.{needs}
 use denote.Ref.{now}
 use Rattle.can.specs.Can.{seriesType, framesBehind}
-use Rattle.can_writer.proofs.Writing.{message-length, refused-short, given-stored}
+use Rattle.can.proofs.Lengths.{message-length}
+use Rattle.can_writer.proofs.Writing.{refused-short, given-stored}
 use Rattle.can_writer.proofs.writer.write_series.Statement.{statement}
 use Rattle.can_writer.proofs.writer.write_series.Tie as tie
 

@@ -5,7 +5,8 @@ use denote.Ref.{now}
 use lib.ListN.{length}
 use Rattle.message.specs.Kinds.{typeNumber}
 use Rattle.can.specs.Can.{identifier, frame}
-use Rattle.can_writer.proofs.Writing.{identifier-length, frame-length, refused-short, given-stored}
+use Rattle.can.proofs.Lengths.{identifier-length, frame-length}
+use Rattle.can_writer.proofs.Writing.{refused-short, given-stored}
 use Rattle.can_writer.proofs.writer.write_single.Statement.{statement}
 use Rattle.can_writer.proofs.writer.write_single.Tie as tie
 

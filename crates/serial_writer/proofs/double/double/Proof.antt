@@ -8,7 +8,7 @@ use lib.ListN.{length, drop}
 use lib.Seq.{sets}
 use Rattle.stuffing.specs.Stuffing.{doubled}
 use Rattle.message.proofs.Stores.{sets-append}
-use Rattle.serial_writer.proofs.Doubling.{doubled-step, doubled-end, length-step}
+use Rattle.stuffing.proofs.Doubling.{doubled-step, doubled-end, length-step}
 use Rattle.serial_writer.proofs.double.double.Statement.{statement}
 use Rattle.serial_writer.proofs.double.double.Tie as tie
 

@@ -4,7 +4,7 @@ use mathlib.Core.Path.{refl}
 use mathlib.Core.List.{[], _∷_}
 use native.Mathlib.Omega.{arith}
 use Rattle.stuffing.specs.Stuffing.{doubled}
-use Rattle.serial_writer.proofs.Doubling.{length-first}
+use Rattle.stuffing.proofs.Doubling.{length-first}
 use Rattle.serial_writer.proofs.Writing.{error-none, error-one, error-all}
 use Rattle.serial_writer.proofs.writer.error_bytes_length.Statement.{statement}
 use Rattle.serial_writer.proofs.writer.error_bytes_length.Tie as tie

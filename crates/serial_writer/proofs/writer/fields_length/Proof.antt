@@ -4,7 +4,7 @@ use mathlib.Core.Path.{refl}
 use native.Mathlib.Omega.{arith}
 use mathlib.Core.List.{[], _∷_}
 use Rattle.stuffing.specs.Stuffing.{doubled}
-use Rattle.serial_writer.proofs.Doubling.{length-first}
+use Rattle.stuffing.proofs.Doubling.{length-first}
 use Rattle.serial_writer.proofs.Writing.{fields-none, fields-one, fields-all}
 use Rattle.serial_writer.proofs.writer.fields_length.Statement.{statement}
 use Rattle.serial_writer.proofs.writer.fields_length.Tie as tie

@@ -8,7 +8,8 @@ use denote.Ref.{now}
 use lib.ListN.{length}
 use Rattle.message.specs.Body.{errorBytes}
 use Rattle.stuffing.specs.Stuffing.{doubled}
-use Rattle.serial_writer.proofs.Doubling.{length-first, put-more}
+use Rattle.stuffing.proofs.Doubling.{length-first}
+use Rattle.serial_writer.proofs.Putting.{put-more}
 use Rattle.serial_writer.proofs.Writing.{error-none, error-one, error-all}
 use Rattle.serial_writer.proofs.writer.put_error.Statement.{statement}
 use Rattle.serial_writer.proofs.writer.put_error.Tie as tie

@@ -8,7 +8,8 @@ use denote.Ref.{now}
 use lib.ListN.{length}
 use Rattle.stuffing.specs.Stuffing.{doubled}
 use Rattle.serial.specs.Frames.{rowOf, headFields}
-use Rattle.serial_writer.proofs.Doubling.{length-first, put-more}
+use Rattle.stuffing.proofs.Doubling.{length-first}
+use Rattle.serial_writer.proofs.Putting.{put-more}
 use Rattle.serial_writer.proofs.Writing.{fields-none, fields-one, fields-all}
 use Rattle.serial_writer.proofs.writer.put_fields.Statement.{statement}
 use Rattle.serial_writer.proofs.writer.put_fields.Tie as tie

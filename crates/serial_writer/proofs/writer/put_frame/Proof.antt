@@ -7,7 +7,8 @@ use lib.ListN.{length, length-set}
 use Rattle.message.specs.Body.{errorBytes}
 use Rattle.stuffing.specs.Stuffing.{doubled}
 use Rattle.serial.specs.Frames.{rowOf, headFields, frameBytes}
-use Rattle.serial_writer.proofs.Writing.{Stored, frame-size, frame-stored}
+use Rattle.serial.proofs.Lengths.{frame-size}
+use Rattle.serial_writer.proofs.Writing.{Stored, frame-stored}
 use Rattle.serial_writer.proofs.writer.put_frame.Statement.{statement}
 use Rattle.serial_writer.proofs.writer.put_frame.Tie as tie
 

@@ -1,8 +1,8 @@
 -- Carried by the link: each arm is that link's own function.
 use borrow.Author.Needs.{needs}
 use Rattle.link.specs.Link.{linkWrite}
-use Rattle.link.proofs.write.Statement.{statement}
-use Rattle.link.proofs.write.Tie as tie
+use Rattle.link_writer.proofs.write.Statement.{statement}
+use Rattle.link_writer.proofs.write.Tie as tie
 
 enum-told : tie.Need-enum-told
 enum-told c = search needs

@@ -1,4 +1,4 @@
--- The laws of doubling and of runs of stores: both go part by part.
+-- The laws of doubling: it goes byte by byte, so part by part.
 use Prim.Native.Nat.{ℕ, suc, _+_, _≤_, _<_}
 use mathlib.Core.Bool.{Bool, true, false}
 use mathlib.Core.List.{List, [], _∷_, _++_}
@@ -7,9 +7,8 @@ use native.Mathlib.Numerals.{add-one}
 use native.Mathlib.Omega.{arith}
 use lib.Dec.{eqb}
 use lib.ListN.{length, getD, drop, length-append, drop-of-length-le}
-use lib.Seq.{sets, drop-cons}
-use Rattle.message.proofs.Stores.{sets-append}
+use lib.Seq.{drop-cons}
 use Rattle.stuffing.specs.Stuffing.{doubled}
 
 pub doubled-append : (a b : List ℕ) → doubled (a ++ b) ≡ doubled a ++ doubled b
 unfolding doubled
@@ -53,12 +52,3 @@ module _ (s : List ℕ) (i : ℕ) where
 -- A byte in front.
 pub length-first : (b : ℕ) (s : List ℕ) → length (doubled (b ∷ s)) ≡ length (doubled (b ∷ [])) + length (doubled s)
 length-first b s = rw (doubled-append (b ∷ []) s, length-append)
-
--- What putting s at a place of `out` leaves: the place behind it, and the output.
-abbrev pub Put : List ℕ → ℕ → List ℕ → ℕ → List ℕ → Type 0
-Put out at s next left = (next ≡ at + length (doubled s)) × (left ≡ sets out at (doubled s))
-
-pub put-more : (a b out mid left : List ℕ) (at m n : ℕ) → Put out at a m mid → Put mid m b n left → Put out at (a ++ b) n left
-put-more a b out mid left at m n p q =
-    rw (q .0, q .1, p .0, p .1, doubled-append a b)
-    (rw length-append (omega arith), sets-append out at (doubled a) (doubled b))

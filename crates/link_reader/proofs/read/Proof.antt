@@ -1,8 +1,8 @@
 -- Carried by the link: each arm is that link's own function.
 use borrow.Author.Needs.{needs}
 use Rattle.link.specs.Link.{linkRead}
-use Rattle.link.proofs.read.Statement.{statement}
-use Rattle.link.proofs.read.Tie as tie
+use Rattle.link_reader.proofs.read.Statement.{statement}
+use Rattle.link_reader.proofs.read.Tie as tie
 
 enum-told : tie.Need-enum-told
 enum-told c = search needs
