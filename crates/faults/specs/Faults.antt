@@ -26,6 +26,20 @@ setupFault d store p =
     (fault 3 (not (sizeLegal (fromBytes p)) || ltb store (fromBytes p))
     None)))
 
+-- Take frame's tests of the buffer: "7 buffer empty; 3 buffer above what remains."
+unfoldable pub bufferFault : Device → Fault
+bufferFault d =
+    fault 7 (eqb (length (frame d)) 0)
+    (fault 3 (ltb (d .size - d .stored) (length (frame d)))
+    None)
+
+-- Its tests of the number, "3 [..] number 0xFFFF or not the next", and then of the buffer.
+unfoldable pub numberFault : Device → ℕ → Fault
+numberFault d number =
+    fault 3 (eqb number 0xFFFF)
+    (fault 3 (not (eqb number ((d .number + 1) % 65536)))
+    (bufferFault d))
+
 -- "21 take frame | number, 2 bytes | 2 length; 7 idle; 6 pending; 3 finished, or number 0xFFFF or not the next; 7 buffer empty; 3 buffer
 -- above what remains."
 unfoldable pub takeFault : Device → List ℕ → Fault
@@ -34,11 +48,7 @@ takeFault d p =
     (fault 7 (isIdle (d .phase))
     (fault 6 (d .pending)
     (fault 3 (isFinished (d .phase))
-    (fault 3 (eqb (fromBytes p) 0xFFFF)
-    (fault 3 (not (eqb (fromBytes p) ((d .number + 1) % 65536)))
-    (fault 7 (eqb (length (frame d)) 0)
-    (fault 3 (ltb (d .size - d .stored) (length (frame d)))
-    None)))))))
+    (numberFault d (fromBytes p)))))
 
 -- "22 frame | 1..256 bytes | 2 length; 7 idle or finished; 6 pending."
 unfoldable pub frameFault : Device → List ℕ → Fault

@@ -13,7 +13,7 @@ use Rattle.file.specs.File.{frameCount}
 use Rattle.link.specs.declared.Link.{Link}
 use Rattle.device_state.specs.Device.{isIdle, frame}
 use Rattle.device_state.specs.declared.Phase.the-variants as Phase·of
-use Rattle.faults.specs.Faults.{fault, takeFault, frameFault, commandFault}
+use Rattle.faults.specs.Faults.{fault, bufferFault, numberFault, takeFault, frameFault, commandFault}
 use Rattle.faults.specs.declared.Fault.the-variants.{None, Nack}
 use Rattle.upload.proofs.Situations.{unitAt}
 
@@ -31,7 +31,7 @@ module _ (l : Link) (own n i store : ℕ) (buffer : List ℕ) (buffered : ℕ) w
   -- Take frame i is carried out where frame i is in the buffer,
   pub take-taken : i < frameCount n → i < 65535 → 1 ≤ length (take buffered buffer) → length (take buffered buffer) ≤ n - min (256 * i) n
       → commandFault (unitAt l own n i buffer buffered false) store 21 (toBytes 2 i) ≡ None
-  unfolding commandFault takeFault fault frame
+  unfolding commandFault takeFault numberFault bufferFault fault frame
   take-taken h small some fits =
       let next : ((i + 65535) % 65536 + 1) % 65536 ≡ i = omega arith in
       rw (
@@ -52,7 +52,7 @@ module _ (l : Link) (own n i store : ℕ) (buffer : List ℕ) (buffered : ℕ) w
 
   -- and nack 3 once it is stored: the unit is finished, or waits for the next number.
   pub take-stored : i < 65535 → commandFault (unitAt l own n (i + 1) buffer buffered false) store 21 (toBytes 2 i) ≡ Nack 3 0
-  unfolding commandFault takeFault fault
+  unfolding commandFault takeFault numberFault fault
   take-stored small = by (eqb (i + 1) (frameCount n)) refl
     where
       by : (b : Bool) → eqb (i + 1) (frameCount n) ≡ b → commandFault (unitAt l own n (i + 1) buffer buffered false) store 21 (toBytes 2 i) ≡ Nack 3 0
