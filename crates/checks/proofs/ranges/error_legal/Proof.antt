@@ -1,15 +1,15 @@
 -- Carried by the case of the error byte, and the kind's range.
 use borrow.Author.Needs.{needs}
 use Rattle.message.specs.Checks.{errorLegal}
-use Rattle.message.specs.Kinds.{inside, isAck}
+use Rattle.message.specs.Kinds.{isAck}
 use Rattle.checks.proofs.ranges.error_legal.Statement.{statement}
 use Rattle.checks.proofs.ranges.error_legal.Tie as tie
 
 enum-known-error : tie.Need-enum-known-error
 enum-known-error c = search needs
 
-error-range-requires : tie.Need-error-range-requires
-error-range-requires c κs = search needs
+row-of-requires : tie.Need-row-of-requires
+row-of-requires c κs = search needs
 
 cast-contains : tie.Need-cast-contains
 cast-contains c = search needs
@@ -24,8 +24,8 @@ error-length-requires : tie.Need-error-length-requires
 error-length-requires c κs = search needs
 
 returns : tie.Need-returns
-unfolding errorLegal inside
-returns c = rw (c .before .before .before .error .given .1, ← c .before .error-range .ensures .0, ← c .before .error-range .ensures .1) (c .contains .ensures)
+unfolding errorLegal
+returns c = rw (c .before .before .before .error .given .1, c .before .row-of .ensures .2) (c .contains .ensures)
 
 returns-2 : tie.Need-returns-2
 unfolding errorLegal isAck
@@ -36,7 +36,7 @@ error-legal-spec =
     tie.close
     (tie.spec
     enum-known-error
-    error-range-requires
+    row-of-requires
     cast-contains
     contains-requires
     enum-told
