@@ -1,6 +1,6 @@
 -- Carried by the laws of storing: with what is still to be stored from here on, the output becomes what it is to be.
 use Prim.Native.Nat.{_+_, _*_, _-_, _/_, _≤_}
-use mathlib.Core.Path.{_≡_, sym, _∙_}
+use mathlib.Core.Path.{_≡_, refl, sym, _∙_}
 use native.Mathlib.Omega.{arith}
 use borrow.Author.Needs.{needs}
 use lib.ListN.{length, drop, length-set}
@@ -19,7 +19,7 @@ abbrev μ-loop : tie.MeasureT-loop
 μ-loop word out₀ n i₀ out i = length word / 2 - i
 
 loop-holds : tie.Need-loop-holds Inv-loop μ-loop
-loop-holds c = search needs
+loop-holds c = (omega arith, refl, refl)
 
 mul-at : tie.Need-mul-at Inv-loop μ-loop
 mul-at c = search needs
@@ -63,10 +63,10 @@ loop-less c = search needs
 loop-again : tie.Need-loop-again Inv-loop μ-loop
 loop-again c =
     let l = c .before .before .before .before .before .loop in
-    (omega arith, simp length-set (l .inv .1), cc (read-turn (now (c .before .before .before .before .before .before .before .before .args .word)) (l .out) (l .i) (omega arith)))
+    (omega arith, simp length-set (l .inv .1), rw (c .before .before .digit-value .ensures, c .digit-value2 .ensures) (sym (read-turn (now (c .before .before .before .before .before .before .before .before .args .word)) (l .out) (l .i) (omega arith)) ∙ l .inv .2))
 
 same-length : tie.Need-same-length Inv-loop μ-loop
-same-length c = search needs
+same-length c = c .before .loop .inv .1
 
 returns : tie.Need-returns Inv-loop μ-loop
 returns c =

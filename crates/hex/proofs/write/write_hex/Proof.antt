@@ -23,7 +23,7 @@ returns-2 : tie.Need-returns-2
 returns-2 c =
     let a = c .before .before .before .before .args in
     let dash = long-enough (now (a .out)) (45 ∷ []) (omega arith) in
-    rw (printed-none (now (a .bytes)) (c .before .if1 .taken)) (dash .0, cc)
+    rw (printed-none (now (a .bytes)) (c .before .if1 .taken)) dash
 
 returns-3 : tie.Need-returns-3
 returns-3 c =
