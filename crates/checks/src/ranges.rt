@@ -1,45 +1,48 @@
 // What each kind allows, one row each, and whether a value is in its range.
 ghost use mathlib.Core.Path.{_≡_};
 ghost use Rattle.message.specs.Checks.{idLegal, payloadLegal, errorLegal};
-ghost use Rattle.message.specs.Kinds.{inside, _to_, idRange, payloadRange, errorRange};
+ghost use Rattle.message.specs.Kinds.{inside, idRange, payloadRange, errorRange};
 use message::ErrorByte;
 use message::Kind;
+use message::Range;
 
-// From and to, both included: of the ID, of the payload's length, of the error byte.
-struct Row(usize, usize, usize, usize, usize, usize);
+// The ranges of the ID, of the payload's length and of the error byte.
+struct Row(Range, Range, Range);
 
 fn row_of(kind: Kind) -> Row
-    ensures { λ r. ⌜ (idRange kind ≡ (r .0 to r .1)) × (payloadRange kind ≡ (r .2 to r .3)) × (errorRange kind ≡ (r .4 to r .5)) ⌝ }
+    ensures { λ r. ⌜ (r .0 ≡ idRange kind) × (r .1 ≡ payloadRange kind) × (r .2 ≡ errorRange kind) ⌝ }
 {
     match kind {
-        Kind::Telecommand => Row(0, 127, 0, 256, 0, 255),
-        Kind::TelecommandAck => Row(0, 127, 0, 0, 0, 0),
-        Kind::TelecommandNack => Row(0, 127, 0, 0, 1, 10),
-        Kind::TelemetryRequest => Row(128, 254, 0, 0, 0, 255),
-        Kind::TelemetryResponse => Row(128, 254, 0, 256, 0, 255),
-        Kind::TelemetryNack => Row(128, 254, 0, 0, 1, 10),
-        Kind::Event => Row(0, 255, 24, 24, 0, 255),
+        Kind::Telecommand => Row(Range(0, 127), Range(0, 256), Range(0, 255)),
+        Kind::TelecommandAck => Row(Range(0, 127), Range(0, 0), Range(0, 0)),
+        Kind::TelecommandNack => Row(Range(0, 127), Range(0, 0), Range(1, 10)),
+        Kind::TelemetryRequest => Row(Range(128, 254), Range(0, 0), Range(0, 255)),
+        Kind::TelemetryResponse => Row(Range(128, 254), Range(0, 256), Range(0, 255)),
+        Kind::TelemetryNack => Row(Range(128, 254), Range(0, 0), Range(1, 10)),
+        Kind::Event => Row(Range(0, 255), Range(24, 24), Range(0, 255)),
     }
 }
 
-fn contains(low: usize, high: usize, n: usize) -> bool
-    ensures { λ r. ⌜ r ≡ inside (low to high) n ⌝ }
+fn contains(range: Range, n: usize) -> bool
+    ensures { λ r. ⌜ r ≡ inside range n ⌝ }
 {
-    low <= n && n <= high
+    range.0 <= n && n <= range.1
 }
 
 pub(crate) fn id_legal(kind: Kind, id: u8) -> bool
     ensures { λ r. ⌜ r ≡ idLegal kind id ⌝ }
 {
     let row = row_of(kind);
-    contains(row.0, row.1, id as usize)
+    let range = row.0;
+    contains(range, id as usize)
 }
 
 pub(crate) fn payload_legal(kind: Kind, length: usize) -> bool
     ensures { λ r. ⌜ r ≡ payloadLegal kind length ⌝ }
 {
     let row = row_of(kind);
-    contains(row.2, row.3, length)
+    let range = row.1;
+    contains(range, length)
 }
 
 pub(crate) fn error_legal(kind: Kind, error: ErrorByte) -> bool
@@ -48,7 +51,8 @@ pub(crate) fn error_legal(kind: Kind, error: ErrorByte) -> bool
     match error {
         ErrorByte::Told(e) => {
             let row = row_of(kind);
-            contains(row.4, row.5, e as usize)
+            let range = row.2;
+            contains(range, e as usize)
         }
         ErrorByte::NotTold => kind.error_length() != 1,
     }

@@ -6,7 +6,7 @@ use Rattle.checks.proofs.ranges.contains.Tie as tie
 
 returns : tie.Need-returns
 unfolding inside
-returns c = rw (le-leb _ _ (c .if1 .taken))
+returns c = rw (le-leb _ _ (c .before .if1 .taken))
 
 returns-2 : tie.Need-returns-2
 unfolding inside

@@ -25,7 +25,7 @@ error-length-requires c κs = search needs
 
 returns : tie.Need-returns
 unfolding errorLegal
-returns c = rw (c .before .before .before .error .given .1, c .before .row-of .ensures .2) (c .contains .ensures)
+returns c = rw (c .before .before .before .before .error .given .1, ← c .before .before .row-of .ensures .2) (c .contains .ensures)
 
 returns-2 : tie.Need-returns-2
 unfolding errorLegal isAck

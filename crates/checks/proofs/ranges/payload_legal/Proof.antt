@@ -1,4 +1,4 @@
--- Carried by congruence: the row has the two ends of the kind's range.
+-- Carried by congruence: the row has the kind's range.
 use borrow.Author.Needs.{needs}
 use Rattle.message.specs.Checks.{payloadLegal}
 use Rattle.checks.proofs.ranges.payload_legal.Statement.{statement}
@@ -12,7 +12,7 @@ contains-requires c κs = search needs
 
 returns : tie.Need-returns
 unfolding payloadLegal
-returns c = rw (c .before .row-of .ensures .1) (c .contains .ensures)
+returns c = rw (← c .before .before .row-of .ensures .1) (c .contains .ensures)
 
 pub payload-legal-spec : {M : Type 1} → statement M
 payload-legal-spec = tie.close (tie.spec row-of-requires contains-requires returns)
