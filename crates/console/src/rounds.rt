@@ -26,13 +26,13 @@ pub(crate) fn round(call: Call, kept: Kept, store: &mut [u8], file: &[u8]) -> Ke
         print::none_line();
         return kept;
     }
-    let unit = kept.unit;
     let own = output(store, kept.store);
-    let stepped = work(call[1] == 1, unit, own);
-    ask(call::fate(call[2]), stepped, kept, own, file)
+    let stepped = work(call[1] == 1, kept, own);
+    request(call::fate(call[2]), stepped, kept, own, file)
 }
 
-fn work(worked: bool, unit: Device, store: &mut [u8]) -> Stepped {
+fn work(worked: bool, kept: Kept, store: &mut [u8]) -> Stepped {
+    let unit = kept.unit;
     if worked {
         return device::work(unit, store);
     }
@@ -42,25 +42,25 @@ fn work(worked: bool, unit: Device, store: &mut [u8]) -> Stepped {
     }
 }
 
-// The sender's request, unless the work step was refused.
-fn ask(fate: Fate, stepped: Stepped, kept: Kept, store: &[u8], file: &[u8]) -> Kept {
-    let unit = stepped.device;
-    let verdict = stepped.verdict;
-    match verdict {
-        Verdict::Refused(refusal) => stopped(refusal, unit, kept),
-        Verdict::Passed => request(fate, unit, kept, store, file),
-    }
-}
-
-fn request(fate: Fate, unit: Device, kept: Kept, store: &[u8], file: &[u8]) -> Kept {
+fn request(fate: Fate, stepped: Stepped, kept: Kept, store: &[u8], file: &[u8]) -> Kept {
     let mut space = [0u8; 1024];
-    match asked(kept, file, &mut space) {
+    let unit = stepped.device;
+    match ask(stepped, kept, file, &mut space) {
         RequestAnswer::Refused(refusal) => stopped(refusal, unit, kept),
         RequestAnswer::Nothing => {
             print::text(b"- - -");
             over(unit, kept)
         }
         RequestAnswer::Request(n) => send(fate, front(&space, n), unit, kept, store, file),
+    }
+}
+
+// The sender's request, unless the work step was refused.
+fn ask(stepped: Stepped, kept: Kept, file: &[u8], out: &mut [u8]) -> RequestAnswer {
+    let verdict = stepped.verdict;
+    match verdict {
+        Verdict::Refused(refusal) => RequestAnswer::Refused(refusal),
+        Verdict::Passed => asked(kept, file, out),
     }
 }
 
@@ -145,7 +145,7 @@ fn length(received: Received) -> usize {
     }
 }
 
-// The sender's answer call, unless an arrival was refused.
+// `REQUEST FIRST SECOND UNIT SENDER`, unless a call was refused.
 fn hear(
     fate: Fate,
     request: &[u8],
@@ -156,17 +156,23 @@ fn hear(
     file: &[u8],
 ) -> Kept {
     let unit = last.device;
-    let outcome = last.outcome;
-    if let Outcome::Refused(refusal) = outcome {
-        return stopped(refusal, unit, kept);
-    }
-    match heard(kept, file, delivered(fate, late)) {
+    match answer(fate, late, last, kept, file) {
         HearAnswer::Refused(refusal) => stopped(refusal, unit, kept),
         HearAnswer::Sender(next) => {
             print::bytes(request);
             print_answers(fate, early, late);
             over(unit, with_sender(kept, next))
         }
+    }
+}
+
+// The sender's answer call, unless an arrival was refused.
+fn answer(fate: Fate, late: &[u8], last: Received, kept: Kept, file: &[u8]) -> HearAnswer {
+    let outcome = last.outcome;
+    match outcome {
+        Outcome::Answer(_) => heard(kept, file, delivered(fate, late)),
+        Outcome::Silent => heard(kept, file, late),
+        Outcome::Refused(refusal) => HearAnswer::Refused(refusal),
     }
 }
 
