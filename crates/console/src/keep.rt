@@ -1,5 +1,6 @@
 // What a script keeps: a unit with its store, a sender and a file. Store and file lie in arrays of the program; here are their lengths.
 use device::Device;
+use device::Phase;
 use link::Link;
 use upload::Sender;
 use upload::Stage;
@@ -18,8 +19,17 @@ pub struct Kept {
 
 // At first there is no unit and no sender, and the file is empty.
 pub(crate) fn none() -> Kept {
-    let made = device::make(Link::Uart, 1);
-    let unit = made.device;
+    let unit = Device {
+        link: Link::Uart,
+        own: 0,
+        phase: Phase::Idle,
+        number: 0,
+        buffer: [0; 256],
+        buffered: 0,
+        pending: false,
+        size: 0,
+        stored: 0,
+    };
     let sender = Sender {
         link: Link::Uart,
         source: 0,
@@ -53,11 +63,5 @@ pub(crate) fn with_sender(kept: Kept, sender: Sender) -> Kept {
     let mut next = kept;
     next.started = true;
     next.sender = sender;
-    next
-}
-
-pub(crate) fn with_file(kept: Kept, file: usize) -> Kept {
-    let mut next = kept;
-    next.file = file;
     next
 }

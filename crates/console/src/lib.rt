@@ -3,8 +3,9 @@
 mod call;
 mod input;
 mod keep;
+mod line;
+mod plain;
 mod print;
-mod recorded;
 mod rounds;
 mod runner;
 mod sending;

@@ -1,4 +1,7 @@
 // What replay prints.
+use crate::input::front;
+use crate::word::KINDS;
+use crate::word::NAMES;
 use device::Device;
 use device::Phase;
 use hex::HexAnswer;
@@ -20,7 +23,7 @@ pub(crate) fn decimal(n: usize) {
 }
 
 // ` N`, a number behind another word.
-pub(crate) fn number(n: usize) {
+fn number(n: usize) {
     text(b" ");
     decimal(n);
 }
@@ -29,44 +32,87 @@ fn next(n: u8) {
     number(n as usize);
 }
 
+// `WORD N`
+pub(crate) fn counted(word: &[u8], n: usize) {
+    text(word);
+    number(n);
+}
+
 // ` OUT`: a lent output, whole.
 pub(crate) fn output(out: &[u8]) {
     text(b" ");
     bytes(out);
 }
 
+// ` OUT`, and the line's end.
+pub(crate) fn last(out: &[u8]) {
+    output(out);
+    end_line();
+}
+
 // A byte string, of at most 4,096 bytes.
 pub(crate) fn bytes(bytes: &[u8]) {
     let mut space = [0u8; 8192];
     if let HexAnswer::Length(n) = hex::write_hex(bytes, &mut space) {
-        text(crate::input::front(&space, n));
+        text(front(&space, n));
     }
+}
+
+pub(crate) fn colon() {
+    text(b":");
 }
 
 pub(crate) fn end_line() {
     text(b"\n");
 }
 
+pub(crate) fn ok_line() {
+    text(b"ok\n");
+}
+
+pub(crate) fn none_line() {
+    text(b"none\n");
+}
+
+pub(crate) fn refused_line(refusal: Refusal) {
+    refused(refusal);
+    end_line();
+}
+
+pub(crate) fn refused(refusal: Refusal) {
+    counted(b"refused", refusal.number() as usize);
+}
+
 // ` PHASE NUMBER BUFFERED CHECKSUM PENDING STORED SIZE` of a unit.
 pub(crate) fn unit(unit: Device) {
     let phase = unit.phase;
+    phase_name(phase);
+    number(unit.number as usize);
+    let buffer = unit.buffer;
+    frame(front(&buffer, unit.buffered as usize));
+    next(unit.pending as u8);
+    number(unit.stored as usize);
+    number(unit.size as usize);
+}
+
+// The same, and the line's end.
+pub(crate) fn unit_line(device: Device) {
+    unit(device);
+    end_line();
+}
+
+fn phase_name(phase: Phase) {
     match phase {
         Phase::Idle => text(b" idle"),
         Phase::Open => text(b" open"),
         Phase::Finished => text(b" finished"),
     }
-    number(unit.number as usize);
-    let buffer = unit.buffer;
-    let frame = crate::input::front(&buffer, unit.buffered as usize);
-    number(frame.len());
-    number(checksum::checksum(frame) as usize);
-    if unit.pending {
-        number(1);
-    } else {
-        number(0);
-    }
-    number(unit.stored as usize);
-    number(unit.size as usize);
+}
+
+// ` BUFFERED CHECKSUM`
+fn frame(bytes: &[u8]) {
+    number(bytes.len());
+    number(checksum::checksum(bytes) as usize);
 }
 
 // ` STATE STAGE FRAME SINCE ROUNDS KNOWN` of a sender.
@@ -78,58 +124,56 @@ pub(crate) fn sender(sender: Sender) {
         State::GivenUp => text(b" given-up - - -"),
     }
     number(sender.rounds as usize);
-    text(b" ");
-    io::print_decimal(STDOUT_FILENO, sender::frames_known(sender));
+    number(sender::frames_known(sender) as usize);
 }
 
 fn running(sender: Sender) {
-    text(b" running");
+    text(b" running ");
     let stage = sender.stage;
-    match stage {
-        Stage::Frame => text(b" A"),
-        Stage::Back => text(b" A"),
-        Stage::Compare => text(b" B"),
-        Stage::Take => text(b" C"),
-        Stage::Confirm => text(b" D"),
-    }
+    text(&[letter(stage)]);
     number(sender.frame as usize);
-    number(sender.since as usize);
+    next(sender.since);
 }
 
-pub(crate) fn bad_line() {
-    text(b"bad line\n");
-}
-
-pub(crate) fn refused(refusal: Refusal) {
-    text(b"refused");
-    next(refusal.number());
+fn letter(stage: Stage) -> u8 {
+    match stage {
+        Stage::Frame => b'A',
+        Stage::Back => b'A',
+        Stage::Compare => b'B',
+        Stage::Take => b'C',
+        Stage::Confirm => b'D',
+    }
 }
 
 // `KIND ID SOURCE DESTINATION ERROR INDEX LENGTH`.
 pub(crate) fn message(message: Message, length: usize) {
     let kind = message.kind;
-    kind_name(kind);
+    text(words::word(&NAMES, place(kind)));
     next(message.id);
     next(message.source);
     next(message.destination);
     let error = message.error;
+    error_byte(error);
+    next(message.index);
+    number(length);
+}
+
+fn error_byte(error: ErrorByte) {
     match error {
         ErrorByte::Told(e) => next(e),
         ErrorByte::NotTold => text(b" ?"),
     }
-    next(message.index);
-    text(b" ");
-    decimal(length);
 }
 
-fn kind_name(kind: Kind) {
+// Of a kind's name among all.
+fn place(kind: Kind) -> usize {
     match kind {
-        Kind::Telecommand => text(b"tc"),
-        Kind::TelecommandAck => text(b"tcack"),
-        Kind::TelecommandNack => text(b"tcnack"),
-        Kind::TelemetryRequest => text(b"tlmreq"),
-        Kind::TelemetryResponse => text(b"tlmrsp"),
-        Kind::TelemetryNack => text(b"tlmnack"),
-        Kind::Event => text(b"event"),
+        Kind::Telecommand => KINDS,
+        Kind::TelecommandAck => KINDS + 1,
+        Kind::TelecommandNack => KINDS + 2,
+        Kind::TelemetryRequest => KINDS + 3,
+        Kind::TelemetryResponse => KINDS + 4,
+        Kind::TelemetryNack => KINDS + 5,
+        Kind::Event => KINDS + 6,
     }
 }

@@ -1,215 +1,209 @@
 // A round between the sender and the unit that a script keeps, with outputs of 1,024 bytes.
+use crate::call;
+use crate::call::Call;
+use crate::input::front;
+use crate::input::output;
 use crate::keep::Kept;
 use crate::keep::with_sender;
 use crate::keep::with_unit;
+use crate::print;
+use crate::sending::answered;
+use crate::sending::asked;
+use crate::sending::heard;
+use device::Device;
 use device::Outcome;
+use device::Received;
+use device::Stepped;
 use message::Refusal;
 use message::Verdict;
+use upload::Fate;
 use upload::HearAnswer;
 use upload::RequestAnswer;
 
-enum Fate {
-    Delivered,
-    RequestLost,
-    AnswerLost,
-    Twice,
-    Unknown,
-}
-
-// What a call of a round leaves: how many bytes it wrote, unless it was refused.
-enum Written {
-    Bytes(usize),
-    Refused(Refusal),
-}
-
-struct Arrived {
-    kept: Kept,
-    answer: Written,
-}
-
 // round WORK FATE
-pub(crate) fn round(line: &[u8], kept: Kept, store: &mut [u8], file: &[u8]) -> Kept {
-    if words::word_count(line) != 3 {
-        crate::print::bad_line();
-        return kept;
-    }
-    let work = words::word(line, 1);
-    let fate = fate_word(words::word(line, 2));
-    if let Fate::Unknown = fate {
-        crate::print::bad_line();
-        return kept;
-    }
-    if check::same(work, b"work") {
-        return with_work(fate, kept, store, file);
-    }
-    if check::same(work, b"rest") {
-        return exchange(fate, kept, store, file);
-    }
-    crate::print::bad_line();
-    kept
-}
-
-fn fate_word(word: &[u8]) -> Fate {
-    if check::same(word, b"delivered") {
-        return Fate::Delivered;
-    }
-    if check::same(word, b"request-lost") {
-        return Fate::RequestLost;
-    }
-    if check::same(word, b"answer-lost") {
-        return Fate::AnswerLost;
-    }
-    if check::same(word, b"twice") {
-        return Fate::Twice;
-    }
-    Fate::Unknown
-}
-
-// The work step in front of the exchange.
-fn with_work(fate: Fate, kept: Kept, store: &mut [u8], file: &[u8]) -> Kept {
+pub(crate) fn round(call: Call, kept: Kept, store: &mut [u8], file: &[u8]) -> Kept {
     if !kept.made || !kept.started {
-        crate::print::text(b"none\n");
+        print::none_line();
         return kept;
     }
-    let before = kept.unit;
-    let worked = device::work(before, crate::call::output(store, kept.store));
-    let unit = worked.device;
-    let next = with_unit(kept, unit, kept.store);
-    let verdict = worked.verdict;
-    match verdict {
-        Verdict::Refused(refusal) => stopped(refusal, next),
-        Verdict::Passed => exchange(fate, next, store, file),
+    let own = output(store, kept.store);
+    let stepped = work(call[1] == 1, kept, own);
+    request(call::fate(call[2]), stepped, kept, own, file)
+}
+
+fn work(worked: bool, kept: Kept, store: &mut [u8]) -> Stepped {
+    let unit = kept.unit;
+    if worked {
+        return device::work(unit, store);
+    }
+    Stepped {
+        device: unit,
+        verdict: Verdict::Passed,
     }
 }
 
-// The sender's request.
-fn exchange(fate: Fate, kept: Kept, store: &[u8], file: &[u8]) -> Kept {
-    if !kept.made || !kept.started {
-        crate::print::text(b"none\n");
-        return kept;
-    }
+fn request(fate: Fate, stepped: Stepped, kept: Kept, store: &[u8], file: &[u8]) -> Kept {
     let mut space = [0u8; 1024];
-    let current = kept.sender;
-    let asked = sender::request(current, crate::input::front(file, kept.file), &mut space);
-    match asked {
-        RequestAnswer::Refused(refusal) => stopped(refusal, kept),
+    let unit = stepped.device;
+    match ask(stepped, kept, file, &mut space) {
+        RequestAnswer::Refused(refusal) => stopped(refusal, unit, kept),
         RequestAnswer::Nothing => {
-            crate::print::text(b"- - -");
-            over(kept)
+            print::text(b"- - -");
+            over(unit, kept)
         }
-        RequestAnswer::Request(n) => sent(fate, crate::input::front(&space, n), kept, store, file),
+        RequestAnswer::Request(n) => send(fate, front(&space, n), unit, kept, store, file),
     }
 }
 
-// What becomes of the request.
-fn sent(fate: Fate, request: &[u8], kept: Kept, store: &[u8], file: &[u8]) -> Kept {
-    let mut first = [0u8; 1024];
-    if let Fate::RequestLost = fate {
-        return heard(request, &[], &[], &[], kept, file);
-    }
-    let arrived = arrives(request, kept, store, &mut first);
-    let next = arrived.kept;
-    let answer = arrived.answer;
-    match answer {
-        Written::Refused(refusal) => stopped(refusal, next),
-        Written::Bytes(n) => answered(
-            fate,
-            request,
-            crate::input::front(&first, n),
-            next,
-            store,
-            file,
-        ),
+// The sender's request, unless the work step was refused.
+fn ask(stepped: Stepped, kept: Kept, file: &[u8], out: &mut [u8]) -> RequestAnswer {
+    let verdict = stepped.verdict;
+    match verdict {
+        Verdict::Refused(refusal) => RequestAnswer::Refused(refusal),
+        Verdict::Passed => asked(kept, file, out),
     }
 }
 
-// What becomes of the first answer.
-fn answered(
-    fate: Fate,
-    request: &[u8],
-    first: &[u8],
-    kept: Kept,
-    store: &[u8],
-    file: &[u8],
-) -> Kept {
+// The request arrives, or arrives early and again, or is lost.
+fn send(fate: Fate, request: &[u8], unit: Device, kept: Kept, store: &[u8], file: &[u8]) -> Kept {
+    let mut early = [0u8; 1024];
+    let mut late = [0u8; 1024];
+    let once = arrive(is_twice(fate), silent(unit), request, store, &mut early);
+    let last = arrive(arrives(fate, once), once, request, store, &mut late);
+    hear(
+        fate,
+        request,
+        front(&early, length(once)),
+        front(&late, length(last)),
+        last,
+        kept,
+        file,
+    )
+}
+
+fn arrive(now: bool, before: Received, request: &[u8], store: &[u8], out: &mut [u8]) -> Received {
+    let unit = before.device;
+    if now {
+        return device::receive(unit, request, store, out);
+    }
+    missed(before)
+}
+
+// No arrival: there is no answer, but a refusal stays.
+fn missed(before: Received) -> Received {
+    let unit = before.device;
+    let outcome = before.outcome;
+    match outcome {
+        Outcome::Answer(_) => silent(unit),
+        Outcome::Silent => before,
+        Outcome::Refused(_) => before,
+    }
+}
+
+fn silent(unit: Device) -> Received {
+    Received {
+        device: unit,
+        outcome: Outcome::Silent,
+    }
+}
+
+fn is_twice(fate: Fate) -> bool {
     match fate {
-        Fate::Delivered => heard(request, first, &[], first, kept, file),
-        Fate::RequestLost => kept,
-        Fate::AnswerLost => heard(request, first, &[], &[], kept, file),
-        Fate::Twice => twice(request, first, kept, store, file),
-        Fate::Unknown => kept,
+        Fate::Delivered => false,
+        Fate::RequestLost => false,
+        Fate::AnswerLost => false,
+        Fate::Twice => true,
     }
 }
 
-// The request arrives again.
-fn twice(request: &[u8], first: &[u8], kept: Kept, store: &[u8], file: &[u8]) -> Kept {
-    let mut second = [0u8; 1024];
-    let arrived = arrives(request, kept, store, &mut second);
-    let next = arrived.kept;
-    let answer = arrived.answer;
-    match answer {
-        Written::Refused(refusal) => stopped(refusal, next),
-        Written::Bytes(n) => {
-            let last = crate::input::front(&second, n);
-            heard(request, first, last, last, next, file)
-        }
+// Whether the request arrives, for the last time.
+fn arrives(fate: Fate, before: Received) -> bool {
+    match fate {
+        Fate::Delivered => true,
+        Fate::RequestLost => false,
+        Fate::AnswerLost => true,
+        Fate::Twice => passed(before),
     }
 }
 
-fn arrives(request: &[u8], kept: Kept, store: &[u8], out: &mut [u8]) -> Arrived {
-    let before = kept.unit;
-    let received = device::receive(before, request, crate::input::front(store, kept.store), out);
-    let unit = received.device;
-    let next = with_unit(kept, unit, kept.store);
+fn passed(received: Received) -> bool {
     let outcome = received.outcome;
     match outcome {
-        Outcome::Answer(n) => Arrived {
-            kept: next,
-            answer: Written::Bytes(n),
-        },
-        Outcome::Silent => Arrived {
-            kept: next,
-            answer: Written::Bytes(0),
-        },
-        Outcome::Refused(refusal) => Arrived {
-            kept: next,
-            answer: Written::Refused(refusal),
-        },
+        Outcome::Answer(_) => true,
+        Outcome::Silent => true,
+        Outcome::Refused(_) => false,
     }
 }
 
-// The sender's answer call, and `REQUEST FIRST SECOND UNIT SENDER`.
-fn heard(
+// Of the answer that an arrival left.
+fn length(received: Received) -> usize {
+    let outcome = received.outcome;
+    match outcome {
+        Outcome::Answer(n) => n,
+        Outcome::Silent => 0,
+        Outcome::Refused(_) => 0,
+    }
+}
+
+// `REQUEST FIRST SECOND UNIT SENDER`, unless a call was refused.
+fn hear(
+    fate: Fate,
     request: &[u8],
-    first: &[u8],
-    second: &[u8],
-    answer: &[u8],
+    early: &[u8],
+    late: &[u8],
+    last: Received,
     kept: Kept,
     file: &[u8],
 ) -> Kept {
-    let current = kept.sender;
-    match sender::hear(current, crate::input::front(file, kept.file), answer) {
-        HearAnswer::Refused(refusal) => stopped(refusal, kept),
+    let unit = last.device;
+    match answer(fate, late, last, kept, file) {
+        HearAnswer::Refused(refusal) => stopped(refusal, unit, kept),
         HearAnswer::Sender(next) => {
-            crate::print::bytes(request);
-            crate::print::output(first);
-            crate::print::output(second);
-            over(with_sender(kept, next))
+            print::bytes(request);
+            print_answers(fate, early, late);
+            over(unit, with_sender(kept, next))
         }
     }
 }
 
-fn stopped(refusal: Refusal, kept: Kept) -> Kept {
-    crate::print::refused(refusal);
-    over(kept)
+// The sender's answer call, unless an arrival was refused.
+fn answer(fate: Fate, late: &[u8], last: Received, kept: Kept, file: &[u8]) -> HearAnswer {
+    let outcome = last.outcome;
+    match outcome {
+        Outcome::Answer(_) => heard(kept, file, delivered(fate, late)),
+        Outcome::Silent => heard(kept, file, late),
+        Outcome::Refused(refusal) => HearAnswer::Refused(refusal),
+    }
+}
+
+// What the sender hears of the last answer.
+fn delivered(fate: Fate, late: &[u8]) -> &[u8] {
+    match fate {
+        Fate::Delivered => late,
+        Fate::RequestLost => late,
+        Fate::AnswerLost => front(late, 0),
+        Fate::Twice => late,
+    }
+}
+
+// ` FIRST SECOND`
+fn print_answers(fate: Fate, early: &[u8], late: &[u8]) {
+    if is_twice(fate) {
+        print::output(early);
+        print::output(late);
+    } else {
+        print::output(late);
+        print::output(early);
+    }
+}
+
+fn stopped(refusal: Refusal, unit: Device, kept: Kept) -> Kept {
+    print::refused(refusal);
+    over(unit, kept)
 }
 
 // ` UNIT SENDER`
-fn over(kept: Kept) -> Kept {
-    let unit = kept.unit;
-    crate::print::unit(unit);
-    let current = kept.sender;
-    crate::print::sender(current);
-    crate::print::end_line();
-    kept
+fn over(unit: Device, kept: Kept) -> Kept {
+    print::unit(unit);
+    answered(with_unit(kept, unit, kept.store))
 }

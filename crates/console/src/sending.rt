@@ -1,139 +1,115 @@
 // The calls of a sender, and its file.
+use crate::call;
+use crate::call::Call;
+use crate::input::front;
+use crate::input::output;
 use crate::keep::Kept;
-use crate::keep::with_file;
 use crate::keep::with_sender;
-use crate::word::LinkWord;
-use crate::word::link_word;
-use digits::NumberAnswer;
-use hex::HexAnswer;
+use crate::print;
 use upload::HearAnswer;
 use upload::RequestAnswer;
 use upload::StartAnswer;
 
+pub(crate) fn make(call: Call, bytes: &[u8], kept: Kept, file: &mut [u8]) -> Kept {
+    match call[0] {
+        call::FILE => keep(call, bytes, kept, file),
+        call::SENDER => start(call, kept),
+        call::REQUEST => {
+            request(call, kept, file);
+            kept
+        }
+        _ => answer(call, bytes, kept, file),
+    }
+}
+
 // file BYTES
-pub(crate) fn file(line: &[u8], kept: Kept, file: &mut [u8]) -> Kept {
-    let mut bytes = [0u8; 8192];
-    if words::word_count(line) != 2 {
-        crate::print::bad_line();
-        return kept;
-    }
-    let HexAnswer::Length(n) = hex::read_hex(words::word(line, 1), &mut bytes) else {
-        crate::print::bad_line();
-        return kept;
-    };
-    if file.len() < n {
-        crate::print::bad_line();
-        return kept;
-    }
-    output::lay(crate::input::front(&bytes, n), file);
-    crate::print::text(b"ok\n");
-    with_file(kept, n)
+fn keep(call: Call, bytes: &[u8], kept: Kept, file: &mut [u8]) -> Kept {
+    output::lay(front(bytes, call[1]), file);
+    print::ok_line();
+    let mut next = kept;
+    next.file = call[1];
+    next
 }
 
 // sender LINK SOURCE DESTINATION LENGTH
-pub(crate) fn sender(line: &[u8], kept: Kept) -> Kept {
-    if words::word_count(line) != 5 {
-        crate::print::bad_line();
-        return kept;
-    }
-    let LinkWord::Known(link) = link_word(words::word(line, 1)) else {
-        crate::print::bad_line();
-        return kept;
-    };
-    let NumberAnswer::Value(source) = digits::number(words::word(line, 2), 255) else {
-        crate::print::bad_line();
-        return kept;
-    };
-    let NumberAnswer::Value(destination) = digits::number(words::word(line, 3), 255) else {
-        crate::print::bad_line();
-        return kept;
-    };
-    let NumberAnswer::Value(length) = digits::number(words::word(line, 4), 0xFFFF_FFFF) else {
-        crate::print::bad_line();
-        return kept;
-    };
-    match sender::start(
-        link,
-        crate::word::byte(source),
-        crate::word::byte(destination),
-        length,
-    ) {
+fn start(call: Call, kept: Kept) -> Kept {
+    match started(call) {
         StartAnswer::Refused(refusal) => {
-            crate::print::refused(refusal);
-            crate::print::end_line();
+            print::refused_line(refusal);
             kept
         }
         StartAnswer::Sender(next) => {
-            crate::print::text(b"ok\n");
+            print::ok_line();
             with_sender(kept, next)
         }
     }
+}
+
+fn started(call: Call) -> StartAnswer {
+    let length = (call[4] % 0x1_0000_0000) as u32;
+    sender::start(
+        call::link(call[1]),
+        call::byte(call[2]),
+        call::byte(call[3]),
+        length,
+    )
 }
 
 // request OUTLEN
-pub(crate) fn request(line: &[u8], kept: Kept, file: &[u8]) {
-    let mut space = [0xA5u8; 1024];
-    if words::word_count(line) != 2 {
-        crate::print::bad_line();
-        return;
-    }
-    let NumberAnswer::Value(length) = digits::number(
-        words::word(line, 1),
-        crate::call::LONGEST_OUTPUT,
-    ) else {
-        crate::print::bad_line();
-        return;
-    };
+fn request(call: Call, kept: Kept, file: &[u8]) {
     if !kept.started {
-        crate::print::text(b"none\n");
+        print::none_line();
         return;
     }
-    let out = crate::call::output(&mut space, length as usize);
-    let current = kept.sender;
-    match sender::request(current, crate::input::front(file, kept.file), out) {
-        RequestAnswer::Refused(refusal) => crate::print::refused(refusal),
-        RequestAnswer::Nothing => crate::print::text(b"nothing"),
-        RequestAnswer::Request(n) => {
-            crate::print::text(b"request");
-            crate::print::number(n);
-        }
+    let mut space = [0xA5u8; 1024];
+    let out = output(&mut space, call[1]);
+    let answer = asked(kept, file, out);
+    print_request(answer);
+    print::last(out);
+}
+
+// The sender's request, with the file as it is kept.
+pub(crate) fn asked(kept: Kept, file: &[u8], out: &mut [u8]) -> RequestAnswer {
+    let sender = kept.sender;
+    sender::request(sender, front(file, kept.file), out)
+}
+
+fn print_request(answer: RequestAnswer) {
+    match answer {
+        RequestAnswer::Refused(refusal) => print::refused(refusal),
+        RequestAnswer::Nothing => print::text(b"nothing"),
+        RequestAnswer::Request(n) => print::counted(b"request", n),
     }
-    crate::print::output(out);
-    crate::print::end_line();
 }
 
 // answer BYTES
-pub(crate) fn answer(line: &[u8], kept: Kept, file: &[u8]) -> Kept {
-    let mut bytes = [0u8; 8192];
-    if words::word_count(line) != 2 {
-        crate::print::bad_line();
-        return kept;
-    }
-    let HexAnswer::Length(n) = hex::read_hex(words::word(line, 1), &mut bytes) else {
-        crate::print::bad_line();
-        return kept;
-    };
+fn answer(call: Call, bytes: &[u8], kept: Kept, file: &[u8]) -> Kept {
     if !kept.started {
-        crate::print::text(b"none\n");
+        print::none_line();
         return kept;
     }
-    let current = kept.sender;
-    match sender::hear(
-        current,
-        crate::input::front(file, kept.file),
-        crate::input::front(&bytes, n),
-    ) {
+    match heard(kept, file, front(bytes, call[1])) {
         HearAnswer::Refused(refusal) => {
-            crate::print::refused(refusal);
-            crate::print::sender(current);
-            crate::print::end_line();
-            kept
+            print::refused(refusal);
+            answered(kept)
         }
         HearAnswer::Sender(next) => {
-            crate::print::text(b"ok");
-            crate::print::sender(next);
-            crate::print::end_line();
-            with_sender(kept, next)
+            print::text(b"ok");
+            answered(with_sender(kept, next))
         }
     }
+}
+
+// The sender's answer call, with the file as it is kept.
+pub(crate) fn heard(kept: Kept, file: &[u8], bytes: &[u8]) -> HearAnswer {
+    let sender = kept.sender;
+    sender::hear(sender, front(file, kept.file), bytes)
+}
+
+// ` SENDER` and the line's end.
+pub(crate) fn answered(kept: Kept) -> Kept {
+    let sender = kept.sender;
+    print::sender(sender);
+    print::end_line();
+    kept
 }

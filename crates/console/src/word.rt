@@ -1,112 +1,89 @@
-// What stands in a word of a call, where it can be read.
+// What a word of a call stands for, as a number: a name by its place in a list, a byte string by its length.
+use crate::input::output;
 use digits::NumberAnswer;
-use link::Link;
-use message::ErrorByte;
-use message::Kind;
-use message::Message;
+use hex::HexAnswer;
 
-pub enum LinkWord {
-    Known(Link),
-    Unknown,
-}
-
-enum KindWord {
-    Known(Kind),
-    Unknown,
-}
-
-enum ErrorWord {
-    Error(ErrorByte),
+pub enum Value {
+    Is(usize),
     Bad,
 }
 
-pub enum MessageWords {
-    Message(Message),
-    Bad,
+// An error byte that is "not told", `?`.
+pub const NOT_TOLD: usize = 256;
+
+// Every name that a script has: calls, links, kinds, work, fates.
+pub const NAMES: [u8; 189] =
+    *b"read write records unit receive work store file sender request answer round uart rs485 can csp tc tcack tcnack tlmreq tlmrsp tlmnack event rest work delivered request-lost answer-lost twice";
+
+// The place of the first kind among them.
+pub const KINDS: usize = 16;
+
+const LONGEST_FILE: usize = 4096;
+
+// The value of a word that stands where a shape has this letter (`line.rt` lists them). A byte string goes to the start of `bytes`.
+pub(crate) fn value_of(letter: u8, word: &[u8], bytes: &mut [u8]) -> Value {
+    match letter {
+        b'c' => place(word, 0, 12),
+        b'l' => place(word, 12, 16),
+        b'k' => place(word, KINDS, 23),
+        b'w' => place(word, 23, 25),
+        b'd' => place(word, 25, 29),
+        _ => measured(letter, word, bytes),
+    }
 }
 
-pub(crate) fn link_word(word: &[u8]) -> LinkWord {
-    if check::same(word, b"uart") {
-        return LinkWord::Known(Link::Uart);
+// The same, of a word that is no name.
+fn measured(letter: u8, word: &[u8], bytes: &mut [u8]) -> Value {
+    match letter {
+        b'x' => byte_string(word, bytes),
+        b'f' => byte_string(word, output(bytes, LONGEST_FILE)),
+        b'e' => error(word),
+        b' ' => Value::Bad,
+        _ => number(word, most(letter)),
     }
-    if check::same(word, b"rs485") {
-        return LinkWord::Known(Link::Rs485);
-    }
-    if check::same(word, b"can") {
-        return LinkWord::Known(Link::Can);
-    }
-    if check::same(word, b"csp") {
-        return LinkWord::Known(Link::Csp);
-    }
-    LinkWord::Unknown
 }
 
-// KIND ID SOURCE DESTINATION ERROR INDEX, from word 2 on.
-pub(crate) fn message_words(line: &[u8]) -> MessageWords {
-    let KindWord::Known(kind) = kind_word(words::word(line, 2)) else {
-        return MessageWords::Bad;
-    };
-    let NumberAnswer::Value(id) = digits::number(words::word(line, 3), 255) else {
-        return MessageWords::Bad;
-    };
-    let NumberAnswer::Value(source) = digits::number(words::word(line, 4), 255) else {
-        return MessageWords::Bad;
-    };
-    let NumberAnswer::Value(destination) = digits::number(words::word(line, 5), 255) else {
-        return MessageWords::Bad;
-    };
-    let ErrorWord::Error(error) = error_word(words::word(line, 6)) else {
-        return MessageWords::Bad;
-    };
-    let NumberAnswer::Value(index) = digits::number(words::word(line, 7), 255) else {
-        return MessageWords::Bad;
-    };
-    MessageWords::Message(Message {
-        kind,
-        id: byte(id),
-        source: byte(source),
-        destination: byte(destination),
-        error,
-        index: byte(index),
-    })
+// The greatest number that a letter stands for.
+fn most(letter: u8) -> u32 {
+    match letter {
+        b'r' => 64,
+        b'b' => 255,
+        b'o' => 1024,
+        b's' => 4096,
+        b't' => 4096,
+        _ => 0xFFFF_FFFF,
+    }
 }
 
-// A number that was read as at most 255.
-pub(crate) fn byte(n: u32) -> u8 {
-    (n % 256) as u8
+// Which of the names from one place up to another this is, counted from the first of them.
+fn place(word: &[u8], from: usize, to: usize) -> Value {
+    let mut k = from;
+    while k < to {
+        if check::same(word, words::word(&NAMES, k)) {
+            return Value::Is(k - from);
+        }
+        k += 1;
+    }
+    Value::Bad
 }
 
-fn error_word(word: &[u8]) -> ErrorWord {
+fn byte_string(word: &[u8], room: &mut [u8]) -> Value {
+    match hex::read_hex(word, room) {
+        HexAnswer::Length(n) => Value::Is(n),
+        HexAnswer::Bad => Value::Bad,
+    }
+}
+
+fn error(word: &[u8]) -> Value {
     if check::same(word, b"?") {
-        return ErrorWord::Error(ErrorByte::NotTold);
+        return Value::Is(NOT_TOLD);
     }
-    let NumberAnswer::Value(error) = digits::number(word, 255) else {
-        return ErrorWord::Bad;
-    };
-    ErrorWord::Error(ErrorByte::Told(byte(error)))
+    number(word, 255)
 }
 
-fn kind_word(word: &[u8]) -> KindWord {
-    if check::same(word, b"tc") {
-        return KindWord::Known(Kind::Telecommand);
+fn number(word: &[u8], most: u32) -> Value {
+    match digits::number(word, most) {
+        NumberAnswer::Value(n) => Value::Is(n as usize),
+        NumberAnswer::Bad => Value::Bad,
     }
-    if check::same(word, b"tcack") {
-        return KindWord::Known(Kind::TelecommandAck);
-    }
-    if check::same(word, b"tcnack") {
-        return KindWord::Known(Kind::TelecommandNack);
-    }
-    if check::same(word, b"tlmreq") {
-        return KindWord::Known(Kind::TelemetryRequest);
-    }
-    if check::same(word, b"tlmrsp") {
-        return KindWord::Known(Kind::TelemetryResponse);
-    }
-    if check::same(word, b"tlmnack") {
-        return KindWord::Known(Kind::TelemetryNack);
-    }
-    if check::same(word, b"event") {
-        return KindWord::Known(Kind::Event);
-    }
-    KindWord::Unknown
 }
