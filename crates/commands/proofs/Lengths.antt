@@ -7,10 +7,10 @@ use native.Mathlib.Omega.{arith}
 use borrow.Author.Tests.{eqb-true, ltb-false, not-false}
 use lib.Dec.{ltb, eqb}
 use lib.ListN.{length}
-use Rattle.faults.specs.Faults.{fault, setupFault, frameFault, commandFault}
-use Rattle.device_state.specs.declared.Device.{Device}
-use Rattle.faults.specs.declared.Fault.{Fault}
-use Rattle.faults.specs.declared.Fault.the-variants.{None}
+use Rattle.device_rules.specs.Faults.{fault, setupFault, frameFault, commandFault}
+use Rattle.device_rules.specs.declared.Device.{Device}
+use Rattle.device_rules.specs.declared.Fault.{Fault}
+use Rattle.device_rules.specs.declared.Fault.the-variants.{None}
 
 fault-none : (e : ℕ) (t : Bool) (rest : Fault) → fault e t rest ≡ None → (t ≡ false) × (rest ≡ None)
 unfolding fault

@@ -1,8 +1,8 @@
 // Cancel: back to idle, whatever was.
 ghost use mathlib.Core.Path.{_≡_};
-ghost use Rattle.commands.specs.Commands.{cancelDone};
-use device_state::Device;
-use device_state::Phase;
+ghost use Rattle.device_rules.specs.Commands.{cancelDone};
+use device_rules::Device;
+use device_rules::Phase;
 
 pub(crate) fn cancel_done(device: Device) -> Device
     ensures { λ r. ⌜ r ≡ cancelDone device ⌝ }

@@ -2,8 +2,8 @@
 ghost use Prim.Native.Nat.{_≤_};
 ghost use mathlib.Core.Path.{_≡_};
 ghost use lib.ListN.{length};
-ghost use Rattle.commands.specs.Commands.{frameDone};
-use device_state::Device;
+ghost use Rattle.device_rules.specs.Commands.{frameDone};
+use device_rules::Device;
 
 pub(crate) fn frame_done(device: Device, payload: &[u8]) -> Device
     requires { ⌜ length (now payload) ≤ 256 ⌝ }

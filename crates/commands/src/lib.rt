@@ -7,10 +7,10 @@ mod take;
 ghost use Prim.Native.Nat.{_≤_};
 ghost use mathlib.Core.Path.{_≡_};
 ghost use lib.ListN.{length};
-ghost use Rattle.faults.specs.Faults.{commandFault};
-ghost use Rattle.commands.specs.Commands.{commandDone, afterCommand};
-use device_state::Device;
-use faults::Fault;
+ghost use Rattle.device_rules.specs.Faults.{commandFault};
+ghost use Rattle.device_rules.specs.Commands.{commandDone, afterCommand};
+use device_rules::Device;
+use device_rules::Fault;
 
 // The unit after a command, and what kept the command from being carried out.
 pub struct Commanded {

@@ -1,8 +1,8 @@
 // Setup: opens the unit for a file of a size.
 ghost use mathlib.Core.Path.{_≡_};
-ghost use Rattle.commands.specs.Commands.{setupDone};
-use device_state::Device;
-use device_state::Phase;
+ghost use Rattle.device_rules.specs.Commands.{setupDone};
+use device_rules::Device;
+use device_rules::Phase;
 
 pub(crate) fn setup_done(device: Device, size: u32) -> Device
     ensures { λ r. ⌜ r ≡ setupDone device size ⌝ }

@@ -1,7 +1,7 @@
 // Take frame: the frame in the buffer waits for the work step.
 ghost use mathlib.Core.Path.{_≡_};
-ghost use Rattle.commands.specs.Commands.{takeDone};
-use device_state::Device;
+ghost use Rattle.device_rules.specs.Commands.{takeDone};
+use device_rules::Device;
 
 pub(crate) fn take_done(device: Device) -> Device
     ensures { λ r. ⌜ r ≡ takeDone device ⌝ }

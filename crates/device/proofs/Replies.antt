@@ -13,13 +13,13 @@ use Rattle.message.specs.declared.Refusal.{Refusal}
 use Rattle.message.specs.declared.WriteAnswer.the-variants as WriteAnswer·of
 use Rattle.message.proofs.Answers.{long-enough}
 use Rattle.link.specs.Link.{linkRead, linkWrite}
-use Rattle.device_state.specs.declared.Device.{Device}
-use Rattle.faults.specs.declared.Fault.{Fault}
-use Rattle.commands.specs.Commands.{afterCommand}
-use Rattle.device.specs.Answers.{receiveTold, afterReceive}
-use Rattle.device.specs.Receive.{Reply, answers, silent, answered, commandAnswer, commandReply, isTaken, silence, kindReply, messageReply, receive}
-use Rattle.device.specs.declared.Outcome.the-variants as Outcome·of
-use Rattle.device.specs.declared.Received.{Received}
+use Rattle.device_rules.specs.declared.Device.{Device}
+use Rattle.device_rules.specs.declared.Fault.{Fault}
+use Rattle.device_rules.specs.Commands.{afterCommand}
+use Rattle.device_rules.specs.Answers.{receiveTold, afterReceive}
+use Rattle.device_rules.specs.Receive.{Reply, answers, silent, answered, commandAnswer, commandReply, isTaken, silence, kindReply, messageReply, receive}
+use Rattle.device_rules.specs.declared.Outcome.the-variants as Outcome·of
+use Rattle.device_rules.specs.declared.Received.{Received}
 
 -- What a call owes of a reply: what it tells, the unit and the output.
 abbrev pub Gives : Device → List ℕ → Answer Reply (List ℕ) → Received → List ℕ → Type 0

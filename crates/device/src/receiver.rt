@@ -1,15 +1,18 @@
 // Bytes that arrive at the unit, and what it answers.
+ghost use mathlib.Core.Bool.{cond};
 ghost use mathlib.Core.Path.{_≡_};
 ghost use lib.ListN.{length};
 ghost use Rattle.message.specs.Answer.{within, counted, laid};
 ghost use Rattle.link.specs.Link.{linkWrite};
-ghost use Rattle.faults.specs.Faults.{commandFault};
-ghost use Rattle.device.specs.Answers.{receiveTold, afterReceive};
-ghost use Rattle.device.specs.Receive.{isTaken, answerSource, answerTo, infoBytes, answered, commandAnswer, commandReply, telemetryReply, kindReply, receive};
-use crate::Outcome;
-use crate::Received;
-use device_state::Device;
-use faults::Fault;
+ghost use Rattle.device_rules.specs.Device.{isFinished};
+ghost use Rattle.device_rules.specs.Faults.{commandFault};
+ghost use Rattle.device_rules.specs.Answers.{receiveTold, afterReceive};
+ghost use Rattle.device_rules.specs.Receive.{isTaken, answerSource, answerTo, infoBytes, answered, commandAnswer, commandReply, telemetryReply, kindReply, receive};
+use device_rules::Device;
+use device_rules::Fault;
+use device_rules::Outcome;
+use device_rules::Phase;
+use device_rules::Received;
 use link::Link;
 use message::ErrorByte;
 use message::Kind;
@@ -165,7 +168,7 @@ fn info_bytes(device: Device) -> [u8; 7]
     ensures { λ r. ⌜ r ≡ infoBytes device ⌝ }
 {
     let buffer = device.buffer;
-    let length = device.frame_length();
+    let length = device_state::frame_length(device);
     let number = little_endian::u16_to_bytes(device.number);
     let size = little_endian::u16_to_bytes(length as u16);
     let sum = little_endian::u16_to_bytes(checksum::checksum(&buffer[..length]));
@@ -177,6 +180,17 @@ fn info_bytes(device: Device) -> [u8; 7]
         size[1],
         sum[0],
         sum[1],
-        phase.is_finished() as u8,
+        flags(phase),
     ]
+}
+
+// Bit 0: finished. The unit never sets bit 1, the error.
+fn flags(phase: Phase) -> u8
+    ensures { λ r. ⌜ r ≡ cond (isFinished phase) 1 0 ⌝ }
+{
+    match phase {
+        Phase::Idle => 0,
+        Phase::Open => 0,
+        Phase::Finished => 1,
+    }
 }

@@ -1,6 +1,6 @@
 // Cancel: only a payload is in its way.
 ghost use mathlib.Core.Path.{_≡_};
-ghost use Rattle.faults.specs.Faults.{cancelFault};
+ghost use Rattle.device_rules.specs.Faults.{cancelFault};
 use crate::Fault;
 
 pub(crate) fn cancel_fault(payload: &[u8]) -> Fault

@@ -1,8 +1,9 @@
 // Frame: what keeps bytes out of the buffer.
 ghost use mathlib.Core.Path.{_≡_};
-ghost use Rattle.faults.specs.Faults.{frameFault};
-use crate::Fault;
-use device_state::Device;
+ghost use Rattle.device_rules.specs.Faults.{frameFault};
+use crate::is_open;
+use device_rules::Device;
+use device_rules::Fault;
 
 pub(crate) fn frame_fault(device: Device, payload: &[u8]) -> Fault
     ensures { λ r. ⌜ r ≡ frameFault device (now (payload .entry)) ⌝ }
@@ -14,7 +15,7 @@ pub(crate) fn frame_fault(device: Device, payload: &[u8]) -> Fault
         return Fault::Nack(2, 0);
     }
     let phase = device.phase;
-    if !phase.is_open() {
+    if !is_open(phase) {
         return Fault::Nack(7, 0);
     }
     if device.pending {

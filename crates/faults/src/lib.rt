@@ -1,18 +1,15 @@
-// Why a command is not carried out (document 01, "The unit", its table): a file for each command, and all of them by ID.
+// Why a command is not carried out (document 01, "The unit", its table): a file for each command, but for take frame,
+// which has a crate of its own (`take_faults`); and all of them by ID.
 mod cancel;
 mod frame;
 mod setup;
-mod take;
 
 ghost use mathlib.Core.Path.{_≡_};
-ghost use Rattle.faults.specs.Faults.{commandFault};
-use device_state::Device;
-
-// None, or the error byte and the index of the nack.
-pub enum Fault {
-    None,
-    Nack(u8, u8),
-}
+ghost use Rattle.device_rules.specs.Device.{isOpen};
+ghost use Rattle.device_rules.specs.Faults.{commandFault};
+use device_rules::Device;
+use device_rules::Fault;
+use device_rules::Phase;
 
 // The fault of a command by its ID, while a store of so many bytes is lent.
 pub fn command_fault(device: Device, store: usize, id: u8, payload: &[u8]) -> Fault
@@ -20,9 +17,19 @@ pub fn command_fault(device: Device, store: usize, id: u8, payload: &[u8]) -> Fa
 {
     match id {
         20 => setup::setup_fault(device, store, payload),
-        21 => take::take_fault(device, payload),
+        21 => take_faults::take_fault(device, payload),
         22 => frame::frame_fault(device, payload),
         23 => cancel::cancel_fault(payload),
         _ => Fault::Nack(1, 0),
+    }
+}
+
+pub(crate) fn is_open(phase: Phase) -> bool
+    ensures { λ r. ⌜ r ≡ isOpen phase ⌝ }
+{
+    match phase {
+        Phase::Idle => false,
+        Phase::Open => true,
+        Phase::Finished => false,
     }
 }

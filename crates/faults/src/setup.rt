@@ -1,8 +1,9 @@
 // Setup: what keeps a unit from being opened for a file.
 ghost use mathlib.Core.Path.{_≡_};
-ghost use Rattle.faults.specs.Faults.{setupFault};
-use crate::Fault;
-use device_state::Device;
+ghost use Rattle.device_rules.specs.Faults.{setupFault};
+use crate::is_open;
+use device_rules::Device;
+use device_rules::Fault;
 
 pub(crate) fn setup_fault(device: Device, store: usize, payload: &[u8]) -> Fault
     ensures { λ r. ⌜ r ≡ setupFault device store (now (payload .entry)) ⌝ }
@@ -14,7 +15,7 @@ pub(crate) fn setup_fault(device: Device, store: usize, payload: &[u8]) -> Fault
         return Fault::Nack(6, 0);
     }
     let phase = device.phase;
-    if phase.is_open() {
+    if is_open(phase) {
         return Fault::Nack(7, 0);
     }
     let size = little_endian::u32_from_bytes(

@@ -16,9 +16,9 @@ use Rattle.serial.specs.Frames.{frameRead, frameWrite}
 use Rattle.serial.specs.declared.SerialLink.the-variants.{Uart, Rs485}
 use Rattle.link.specs.Link.{linkRead, linkWrite, linkCarried}
 use Rattle.link.specs.declared.Link.{Link}
-use Rattle.device_state.specs.Device.{newDevice}
-use Rattle.device.specs.Answers.{afterReceive}
-use Rattle.device.specs.Receive.{receive}
+use Rattle.device_rules.specs.Device.{newDevice}
+use Rattle.device_rules.specs.Answers.{afterReceive}
+use Rattle.device_rules.specs.Receive.{receive}
 use Rattle.upload.specs.Schedule.{output, scheduled}
 use Rattle.upload.specs.declared.Fate.{Fate}
 use Rattle.upload.specs.declared.Fate.the-variants as Fate·of

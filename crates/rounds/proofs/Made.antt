@@ -9,12 +9,12 @@ use Rattle.message.specs.Answer.{Answer, refused, given, number, passed, failed
 use Rattle.message.specs.declared.Refusal.{Refusal}
 use Rattle.message.specs.declared.Verdict.the-variants.{Passed, Refused}
 use Rattle.link.proofs.Laws.{no-bytes}
-use Rattle.device.specs.Answers.{afterReceive}
-use Rattle.device.specs.Receive.{Reply, silent, messageReply, receive}
-use Rattle.work_step.specs.Work.{work, storeAfter, afterWork}
-use Rattle.device_state.specs.declared.Device.{Device}
+use Rattle.device_rules.specs.Answers.{afterReceive}
+use Rattle.device_rules.specs.Receive.{Reply, silent, messageReply, receive}
+use Rattle.device_rules.specs.Work.{work, storeAfter, afterWork}
+use Rattle.device_rules.specs.declared.Device.{Device}
 use Rattle.upload.specs.Round.{hear}
-use Rattle.upload.specs.Rounds.{atRest, answerCheck, callCheck, choose, made, firstRefusal}
+use Rattle.runs.specs.Rounds.{atRest, answerCheck, callCheck, choose, made, firstRefusal}
 use Rattle.upload.specs.Schedule.{output, exchange, requested, roundCalls}
 use Rattle.upload.specs.Sender.{Asked, isRunning, request}
 use Rattle.upload.specs.World.{World, shared, lent, kept, Call, works, asks, arrives, hears, bytesOr, senderOr, does}

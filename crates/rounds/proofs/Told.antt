@@ -11,14 +11,14 @@ use Rattle.message.specs.Answer.{Answer, Check, refused, given, number, passed,
 use Rattle.message.specs.declared.Refusal.{Refusal}
 use Rattle.message.specs.declared.Verdict.{Verdict}
 use Rattle.message.specs.declared.Verdict.the-variants as Verdict·of
-use Rattle.device_state.specs.Device.{stepTold}
-use Rattle.device.specs.Answers.{receiveTold}
-use Rattle.device.specs.Receive.{answers, silent, receive}
-use Rattle.work_step.specs.Work.{worked}
-use Rattle.device_state.specs.declared.Device.{Device}
-use Rattle.device.specs.declared.Outcome.{Outcome}
-use Rattle.device.specs.declared.Outcome.the-variants as Outcome·of
-use Rattle.upload.specs.Rounds.{answerCheck}
+use Rattle.device_rules.specs.Device.{stepTold}
+use Rattle.device_rules.specs.Answers.{receiveTold}
+use Rattle.device_rules.specs.Receive.{answers, silent, receive}
+use Rattle.device_rules.specs.Work.{worked}
+use Rattle.device_rules.specs.declared.Device.{Device}
+use Rattle.device_rules.specs.declared.Outcome.{Outcome}
+use Rattle.device_rules.specs.declared.Outcome.the-variants as Outcome·of
+use Rattle.runs.specs.Rounds.{answerCheck}
 use Rattle.upload.specs.Schedule.{output}
 use Rattle.upload.specs.Sender.{asks, nothing, asked, isRunning, request, requestTold}
 use Rattle.upload.specs.declared.RequestAnswer.{RequestAnswer}

@@ -3,8 +3,8 @@ use Prim.Native.Nat.{ℕ}
 use mathlib.Core.List.{List, []}
 use mathlib.Core.Path.{_≡_}
 use Rattle.message.specs.Answer.{verdictTold}
-use Rattle.device_state.specs.declared.Device.{Device}
-use Rattle.upload.specs.Rounds.{made, firstRefusal}
+use Rattle.device_rules.specs.declared.Device.{Device}
+use Rattle.runs.specs.Rounds.{made, firstRefusal}
 use Rattle.upload.specs.World.{World, Call}
 use Rattle.upload.specs.declared.Sender.{Sender}
 use Rattle.rounds.specs.declared.Rounded.{Rounded}

@@ -2,10 +2,10 @@
 ghost use mathlib.Core.Path.{_≡_};
 ghost use lib.ListN.{length};
 ghost use Rattle.message.specs.Answer.{verdictTold, within, counted};
-ghost use Rattle.device.specs.Answers.{receiveTold, afterReceive};
-ghost use Rattle.device.specs.Receive.{receive};
+ghost use Rattle.device_rules.specs.Answers.{receiveTold, afterReceive};
+ghost use Rattle.device_rules.specs.Receive.{receive};
 ghost use Rattle.upload.specs.Round.{hear};
-ghost use Rattle.upload.specs.Rounds.{atRest, answerCheck};
+ghost use Rattle.runs.specs.Rounds.{atRest, answerCheck};
 ghost use Rattle.upload.specs.Schedule.{output, exchange, requested};
 ghost use Rattle.upload.specs.World.{senderOr};
 ghost use Rattle.rounds.specs.Ends.{asking, Ends};

@@ -1,12 +1,12 @@
 // One round between a sender and a unit (document 01, "The sender and its rounds"): the work step, done or not, then one exchange, by the
 // calls of the crates `device` and `sender`. A program that has both sides, as a test or a rehearsal on the ground, runs an upload with it.
 //
-// What a round comes to is `roundMade` and `roundRefusal` of upload's `specs/Rounds.antt`, over the calls that demand 3 is proved of.
+// What a round comes to is `roundMade` and `roundRefusal` of `specs/Rounds.antt` in `runs`, over the calls that demand 3 is proved of.
 mod exchange;
 
 ghost use mathlib.Core.Path.{_≡_};
 ghost use Rattle.message.specs.Answer.{verdictTold};
-ghost use Rattle.upload.specs.Rounds.{atRest, roundMade, roundRefusal};
+ghost use Rattle.runs.specs.Rounds.{atRest, roundMade, roundRefusal};
 use device::Device;
 use message::Refusal;
 use message::Verdict;

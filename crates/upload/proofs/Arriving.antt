@@ -13,7 +13,7 @@ use Rattle.message.specs.Kinds.{isEvent}
 use Rattle.little_endian.proofs.Laws.{to-length, from-to}
 use Rattle.file.specs.File.{fileFrame}
 use Rattle.link.specs.Link.{idCarried, linkCarried, linkRead}
-use Rattle.device_state.specs.declared.Device.{Device}
+use Rattle.device_rules.specs.declared.Device.{Device}
 use Rattle.upload.specs.Sender.{requestPayload}
 use Rattle.upload.specs.declared.Meaning.{Meaning}
 use Rattle.upload.specs.declared.Meaning.the-variants.{Stay, Forward}
@@ -24,7 +24,7 @@ use Rattle.upload.specs.Stored.{isTake, markTaken}
 use Rattle.upload.proofs.Exchange.{requestRead}
 use Rattle.upload.proofs.Files.{count-legal, frame-some, frame-most, remains}
 use Rattle.upload.proofs.Served.{Served, served-frame, served-compare, served-take, served-pending, served-stored, served-waiting, served-confirmed}
-use Rattle.upload.proofs.Situations.{unitAt}
+use Rattle.device_rules.proofs.Faults.{unitAt}
 use Rattle.upload.proofs.Table.{Upload, Buffer, free, loaded, pending, isPending, Stands, Quiet, Leads, markOf, frames, Holding, sender}
 
 -- The buffer after the arrival of a stage's request.

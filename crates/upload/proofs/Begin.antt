@@ -15,12 +15,12 @@ use Rattle.file.specs.File.{sizeLegal, frameCount}
 use Rattle.link.specs.declared.Link.{Link}
 use Rattle.link.specs.declared.Link.the-variants.{Uart, Rs485, Can, Csp}
 use Rattle.link.proofs.Laws.{within-given}
-use Rattle.device_state.specs.declared.Device.{Device}
-use Rattle.faults.specs.Faults.{fault, setupFault, commandFault}
-use Rattle.faults.specs.declared.Fault.{Fault}
-use Rattle.faults.specs.declared.Fault.the-variants.{None}
-use Rattle.commands.specs.Commands.{setupDone, commandDone, afterCommand}
-use Rattle.device.specs.Receive.{Reply, answers, silent, isTaken, answered, commandReply, kindReply, messageReply, receive}
+use Rattle.device_rules.specs.declared.Device.{Device}
+use Rattle.device_rules.specs.Faults.{fault, setupFault, commandFault}
+use Rattle.device_rules.specs.declared.Fault.{Fault}
+use Rattle.device_rules.specs.declared.Fault.the-variants.{None}
+use Rattle.device_rules.specs.Commands.{setupDone, commandDone, afterCommand}
+use Rattle.device_rules.specs.Receive.{Reply, answers, silent, isTaken, answered, commandReply, kindReply, messageReply, receive}
 use Rattle.upload.specs.Sender.{newSender, addressesLegal, checked, start}
 use Rattle.upload.specs.declared.Sender.{Sender}
 use Rattle.upload.specs.declared.Stage.the-variants.{Frame}
@@ -31,7 +31,7 @@ use Rattle.upload.specs.World.{World}
 use Rattle.upload.proofs.Counting.{lull-none}
 use Rattle.upload.proofs.Exchange.{Addressed}
 use Rattle.upload.proofs.Files.{count-legal, store-first}
-use Rattle.upload.proofs.Situations.{unitAt}
+use Rattle.device_rules.proofs.Faults.{unitAt}
 use Rattle.upload.proofs.Table.{Upload, free, markOf, Invariant, runs}
 
 -- A started sender: its checks passed.

@@ -7,8 +7,8 @@ use native.Mathlib.Omega.{arith}
 use borrow.Author.Tests.{eq-eqb, lt-ltb, le-ltb}
 use lib.Dec.{eqb}
 use lib.ListN.{length, take, drop}
-use Rattle.device_state.specs.declared.Device.{Device}
-use Rattle.device_state.specs.declared.Phase.the-variants as Phase·of
+use Rattle.device_rules.specs.declared.Device.{Device}
+use Rattle.device_rules.specs.declared.Phase.the-variants as Phase·of
 use Rattle.upload.specs.Sender.{isRunning, framesKnown}
 use Rattle.upload.specs.declared.Stage.{Stage}
 use Rattle.upload.specs.declared.Stage.the-variants.{Frame, Back, Compare, Take, Confirm}

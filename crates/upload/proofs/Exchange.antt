@@ -19,7 +19,7 @@ use Rattle.link.specs.declared.Link.{Link}
 use Rattle.link.specs.declared.Link.the-variants.{Uart, Rs485, Can, Csp}
 use Rattle.link.proofs.Laws.{Legal}
 use Rattle.link.proofs.RoundTrip.{Arrives, legal-arrives}
-use Rattle.device.specs.Receive.{isTaken, answerSource}
+use Rattle.device_rules.specs.Receive.{isTaken, answerSource}
 use Rattle.upload.specs.Round.{takenError}
 use Rattle.upload.specs.Sender.{requestKind, requestId}
 use Rattle.upload.specs.declared.Stage.{Stage}

@@ -8,9 +8,9 @@ use borrow.Author.Tests.{eq-eqb}
 use lib.ListN.{length}
 use Rattle.message.specs.Answer.{given, require}
 use Rattle.link.specs.Link.{linkRead}
-use Rattle.device_state.specs.declared.Device.{Device}
-use Rattle.device.specs.Answers.{afterReceive}
-use Rattle.device.specs.Receive.{answers, receive}
+use Rattle.device_rules.specs.declared.Device.{Device}
+use Rattle.device_rules.specs.Answers.{afterReceive}
+use Rattle.device_rules.specs.Receive.{answers, receive}
 use Rattle.upload.specs.Round.{meaning, roundOver, hear}
 use Rattle.upload.specs.Sender.{isRunning, checked, sameFile}
 use Rattle.upload.specs.declared.Meaning.{Meaning}
@@ -24,7 +24,7 @@ use Rattle.upload.proofs.Asking.{unrefused, asks-request}
 use Rattle.upload.proofs.Files.{count-legal}
 use Rattle.upload.proofs.Hearing.{handed, nothing-heard, stays, goes}
 use Rattle.upload.proofs.Refused.{refused-leaves}
-use Rattle.upload.proofs.Situations.{unitAt}
+use Rattle.device_rules.proofs.Faults.{unitAt}
 use Rattle.upload.proofs.Table.{Upload, Buffer, free, isPending, Quiet, Leads, frames, UnitAt, Row, sender, Asked, Answered, Running·, Invariant, runs, gaveUp, done}
 use Rattle.upload.proofs.Working.{workedCount, workedBuffer, worked-stands, worked-quiet, work-unit}
 

@@ -3,7 +3,6 @@ pub mod Counting
 pub mod Refused
 pub mod Exchange
 pub mod Situations
-pub mod Faults
 pub mod Served
 pub mod Table
 pub mod Working
@@ -14,4 +13,3 @@ pub mod Keeps
 pub mod Begin
 pub mod Demand
 pub mod Schedules
-pub mod Runs

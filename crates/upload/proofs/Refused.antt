@@ -5,10 +5,10 @@ use mathlib.Core.List.{List}
 use mathlib.Core.Path.{_≡_, refl}
 use native.Mathlib.Omega.{arith}
 use Rattle.message.specs.Answer.{Answer, refused, given}
-use Rattle.device_state.specs.declared.Device.{Device}
-use Rattle.work_step.specs.Work.{storeAfter, afterWork}
-use Rattle.device.specs.Answers.{afterReceive}
-use Rattle.device.specs.Receive.{Reply}
+use Rattle.device_rules.specs.declared.Device.{Device}
+use Rattle.device_rules.specs.Work.{storeAfter, afterWork}
+use Rattle.device_rules.specs.Answers.{afterReceive}
+use Rattle.device_rules.specs.Receive.{Reply}
 use Rattle.upload.specs.declared.Sender.{Sender}
 use Rattle.upload.specs.World.{World, Lent, shared, other, lent, kept, Call, works, asks, arrives, hears, bytesOr, senderOr, workAnswer, askAnswer, arriveAnswer, hearAnswer, does, isRefusal, isRefused}
 

@@ -10,8 +10,8 @@ use Rattle.message.specs.Answer.{Answer, given, within, require, after}
 use Rattle.link.specs.Link.{mostBytes}
 use Rattle.link.specs.declared.Link.{Link}
 use Rattle.link.specs.declared.Link.the-variants.{Uart, Rs485, Can, Csp}
-use Rattle.device_state.specs.declared.Device.{Device}
-use Rattle.device.specs.Receive.{answers, receive}
+use Rattle.device_rules.specs.declared.Device.{Device}
+use Rattle.device_rules.specs.Receive.{answers, receive}
 use Rattle.upload.specs.Round.{hear}
 use Rattle.upload.specs.Sender.{isRunning, checked, sameFile, request}
 use Rattle.upload.specs.Sender as sent
@@ -26,7 +26,7 @@ use Rattle.upload.proofs.Arriving.{arrivedBuffer, arrival}
 use Rattle.upload.proofs.Asking.{asks-bytes}
 use Rattle.upload.proofs.Begin.{upload, begins}
 use Rattle.upload.proofs.Keeps.{keeps-work, keeps-ask, keeps-arrive, again, keeps-lost, keeps-delivered, running, marksAfter}
-use Rattle.upload.proofs.Situations.{unitAt}
+use Rattle.device_rules.proofs.Faults.{unitAt}
 use Rattle.upload.proofs.Table.{Upload, isPending, Quiet, Asked, Running·, Invariant}
 use Rattle.upload.proofs.Working.{work-free}
 

@@ -21,11 +21,11 @@ use Rattle.file.specs.File.{frameCount, fileFrame}
 use Rattle.link.specs.Link.{idCarried, linkCarried, linkRead, linkWrite, mostBytes}
 use Rattle.link.specs.declared.Link.{Link}
 use Rattle.link.proofs.RoundTrip.{id-arrives}
-use Rattle.device_state.specs.Device.{isFinished, frame}
-use Rattle.device_state.specs.declared.Device.{Device}
-use Rattle.device_state.specs.declared.Phase.the-variants.{Open, Finished}
-use Rattle.commands.specs.Commands.{commandDone, takeDone, frameDone, afterCommand}
-use Rattle.device.specs.Receive.{answers, answerTo, infoBytes, answered, commandAnswer, commandReply, telemetryReply, kindReply, messageReply, receive}
+use Rattle.device_rules.specs.Device.{isFinished, frame}
+use Rattle.device_rules.specs.declared.Device.{Device}
+use Rattle.device_rules.specs.declared.Phase.the-variants.{Open, Finished}
+use Rattle.device_rules.specs.Commands.{commandDone, takeDone, frameDone, afterCommand}
+use Rattle.device_rules.specs.Receive.{answers, answerTo, infoBytes, answered, commandAnswer, commandReply, telemetryReply, kindReply, messageReply, receive}
 use Rattle.upload.specs.Round.{fits, takenError, infoNumber, infoSize, infoChecksum, compared, confirmed, informed, ackMeaning, nackMeaning, infoMeaning, kindMeaning, meaning}
 use Rattle.upload.specs.Sender.{requestKind, requestId}
 use Rattle.upload.specs.declared.Meaning.{Meaning}
@@ -35,8 +35,8 @@ use Rattle.upload.specs.declared.Stage.{Stage}
 use Rattle.upload.specs.declared.Stage.the-variants.{Frame, Back, Compare, Take, Confirm}
 use Rattle.upload.specs.declared.State.the-variants.{Running}
 use Rattle.upload.proofs.Exchange.{Addressed, requestOf, requestRead, answerOf, Plain, answer-arrives, request-taken, answer-fits, taken-told}
-use Rattle.upload.proofs.Faults.{frame-taken, take-taken, take-pending, take-stored}
-use Rattle.upload.proofs.Situations.{unitAt, senderAt}
+use Rattle.device_rules.proofs.Faults.{unitAt, frame-taken, take-taken, take-pending, take-stored}
+use Rattle.upload.proofs.Situations.{senderAt}
 
 -- Bytes arrive at a unit: it becomes another, and its answer means something to the sender.
 pub record Served (file : List ℕ) (s : Sender) (d : Device) (store : ℕ) (b : List ℕ) (d′ : Device) (x : Meaning) : Type 0 where

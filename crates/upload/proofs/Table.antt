@@ -9,7 +9,7 @@ use Rattle.message.specs.Answer.{given}
 use Rattle.file.specs.File.{sizeLegal, frameCount, fileFrame}
 use Rattle.link.specs.Link.{linkRead}
 use Rattle.link.specs.declared.Link.{Link}
-use Rattle.device_state.specs.declared.Device.{Device}
+use Rattle.device_rules.specs.declared.Device.{Device}
 use Rattle.upload.specs.Round.{meaning}
 use Rattle.upload.specs.Sender.{requestPayload}
 use Rattle.upload.specs.declared.Meaning.{Meaning}
@@ -25,7 +25,8 @@ use Rattle.upload.specs.Stored.{Mark, waiting, taken, stored}
 use Rattle.upload.specs.World.{World}
 use Rattle.upload.proofs.Counting.{Lull}
 use Rattle.upload.proofs.Exchange.{Addressed, requestRead}
-use Rattle.upload.proofs.Situations.{unitAt, senderAt}
+use Rattle.device_rules.proofs.Faults.{unitAt}
+use Rattle.upload.proofs.Situations.{senderAt}
 
 -- What stays the same all along: the file, the store as the setup left it, the link and the addresses.
 pub record Upload : Type 0 where

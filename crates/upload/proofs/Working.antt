@@ -10,15 +10,15 @@ use lib.Dec.{ltb, eqb}
 use lib.ListN.{length, take, take-append-drop}
 use Rattle.message.specs.Answer.{given, require, after}
 use Rattle.file.specs.File.{fileFrame}
-use Rattle.device_state.specs.Device.{frame}
-use Rattle.device_state.specs.declared.Device.{Device}
-use Rattle.work_step.specs.Work.{frameStored, hasRoom, work, storeAfter, afterWork}
+use Rattle.device_rules.specs.Device.{frame}
+use Rattle.device_rules.specs.declared.Device.{Device}
+use Rattle.device_rules.specs.Work.{frameStored, hasRoom, work, storeAfter, afterWork}
 use Rattle.upload.specs.declared.Stage.{Stage}
 use Rattle.upload.specs.declared.Stage.the-variants.{Frame, Back, Compare, Take, Confirm}
 use Rattle.upload.specs.Stored.{Mark, markWorked}
 use Rattle.upload.specs.World.{isRefusal}
 use Rattle.upload.proofs.Files.{stored-next, size-reached, beginning-length, store-next}
-use Rattle.upload.proofs.Situations.{unitAt}
+use Rattle.device_rules.proofs.Faults.{unitAt}
 use Rattle.upload.proofs.Table.{Upload, Buffer, free, loaded, pending, isPending, Stands, Quiet, markOf, frames, UnitAt}
 
 -- How many frames are stored after a work step, and the buffer then.

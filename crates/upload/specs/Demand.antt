@@ -11,11 +11,11 @@ use Rattle.little_endian.specs.LittleEndian.{fromBytes}
 use Rattle.link.specs.Link.{linkRead}
 use Rattle.link.specs.declared.Link.the-variants.{Rs485}
 use Rattle.file.specs.File.{frameCount}
-use Rattle.device_state.specs.declared.Device.{Device}
-use Rattle.device_state.specs.declared.Phase.the-variants as Phase·of
-use Rattle.faults.specs.Faults.{commandFault}
-use Rattle.faults.specs.declared.Fault.the-variants.{None}
-use Rattle.device.specs.Receive.{answers, receive}
+use Rattle.device_rules.specs.declared.Device.{Device}
+use Rattle.device_rules.specs.declared.Phase.the-variants as Phase·of
+use Rattle.device_rules.specs.Faults.{commandFault}
+use Rattle.device_rules.specs.declared.Fault.the-variants.{None}
+use Rattle.device_rules.specs.Receive.{answers, receive}
 use Rattle.upload.specs.Sender.{start, isRunning, framesKnown}
 use Rattle.upload.specs.declared.State.the-variants.{Finished, GivenUp}
 use Rattle.upload.specs.Legal.{Legal, between}

@@ -5,4 +5,3 @@ pub mod Legal
 pub mod Stored
 pub mod Demand
 pub mod Schedule
-pub mod Rounds

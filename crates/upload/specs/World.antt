@@ -5,10 +5,10 @@ use mathlib.Core.Bool.{Bool, true, false}
 use mathlib.Core.List.{List, [], _∷_}
 use lib.ListN.{length}
 use Rattle.message.specs.Answer.{Answer, refused, given, within}
-use Rattle.device_state.specs.declared.Device.{Device}
-use Rattle.work_step.specs.Work.{work, storeAfter, afterWork}
-use Rattle.device.specs.Answers.{afterReceive}
-use Rattle.device.specs.Receive.{Reply, receive}
+use Rattle.device_rules.specs.declared.Device.{Device}
+use Rattle.device_rules.specs.Work.{work, storeAfter, afterWork}
+use Rattle.device_rules.specs.Answers.{afterReceive}
+use Rattle.device_rules.specs.Receive.{Reply, receive}
 use Rattle.upload.specs.Round.{hear}
 use Rattle.upload.specs.Sender.{Asked, request}
 use Rattle.upload.specs.declared.Sender.{Sender}

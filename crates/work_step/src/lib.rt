@@ -4,11 +4,11 @@ ghost use mathlib.Core.Bool.{cond};
 ghost use mathlib.Core.Path.{_≡_};
 ghost use lib.Dec.{eqb};
 ghost use lib.ListN.{length};
-ghost use Rattle.device_state.specs.Device.{frame, stepTold};
-ghost use Rattle.work_step.specs.Work.{frameStored, hasRoom, work, worked, afterWork, storeAfter};
-use device_state::Device;
-use device_state::Phase;
-use device_state::Stepped;
+ghost use Rattle.device_rules.specs.Device.{frame, stepTold};
+ghost use Rattle.device_rules.specs.Work.{frameStored, hasRoom, work, worked, afterWork, storeAfter};
+use device_rules::Device;
+use device_rules::Phase;
+use device_rules::Stepped;
 use message::Refusal;
 use message::Verdict;
 
@@ -31,7 +31,7 @@ pub fn work(device: Device, store: &mut [u8]) -> Stepped
         };
     }
     let at = device.stored as usize;
-    let length = device.frame_length();
+    let length = device_state::frame_length(device);
     let buffer = device.buffer;
     // There is room, so nothing is refused here.
     output::lay(&buffer[..length], &mut store[at..]);
@@ -49,7 +49,7 @@ fn has_room(device: Device, store: usize) -> bool
     if store < size {
         return false;
     }
-    device.stored as usize + device.frame_length() <= size
+    device.stored as usize + device_state::frame_length(device) <= size
 }
 
 // The unit once its pending frame is stored.
@@ -59,7 +59,7 @@ fn frame_stored(device: Device) -> Device
 {
     let link = device.link;
     let buffer = device.buffer;
-    let stored = device.stored + device.frame_length() as u32;
+    let stored = device.stored + device_state::frame_length(device) as u32;
     Device {
         link,
         own: device.own,

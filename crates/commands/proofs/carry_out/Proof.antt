@@ -1,6 +1,6 @@
 -- Carried by the fault, or that there is none: then the payload is of the command's length.
 use mathlib.Core.Path.{sym, _∙_}
-use Rattle.commands.specs.Commands.{afterCommand}
+use Rattle.device_rules.specs.Commands.{afterCommand}
 use Rattle.commands.proofs.Lengths.{payload-lengths}
 use borrow.Author.Needs.{needs}
 use Rattle.commands.proofs.carry_out.Statement.{statement}

@@ -4,8 +4,8 @@ use native.Mathlib.Omega.{arith}
 use borrow.Author.Tests.{ne-eqb}
 use denote.Ref.{now}
 use Rattle.little_endian.specs.LittleEndian.{fromBytes}
-use Rattle.commands.specs.Commands.{setupDone, commandDone}
-use Rattle.faults.proofs.Payloads.{four-bytes}
+use Rattle.device_rules.specs.Commands.{setupDone, commandDone}
+use Rattle.device_rules.proofs.Payloads.{four-bytes}
 use borrow.Author.Needs.{needs}
 use Rattle.commands.proofs.command_done.Statement.{statement}
 use Rattle.commands.proofs.command_done.Tie as tie

@@ -1,7 +1,7 @@
 -- Carried by the test of the address.
 use mathlib.Core.Path.{refl}
 use borrow.Author.Tests.{eq-eqb, ne-eqb}
-use Rattle.device_state.specs.Device.{newDevice, make, stepTold}
+use Rattle.device_rules.specs.Device.{newDevice, make, stepTold}
 use Rattle.device_state.proofs.make.Statement.{statement}
 use Rattle.device_state.proofs.make.Tie as tie
 

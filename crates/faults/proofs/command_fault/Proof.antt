@@ -1,6 +1,6 @@
 -- Carried by the ID.
 use borrow.Author.Tests.{ne-eqb}
-use Rattle.faults.specs.Faults.{commandFault}
+use Rattle.device_rules.specs.Faults.{commandFault}
 use borrow.Author.Needs.{needs}
 use Rattle.faults.proofs.command_fault.Statement.{statement}
 use Rattle.faults.proofs.command_fault.Tie as tie

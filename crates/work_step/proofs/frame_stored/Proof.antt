@@ -1,5 +1,5 @@
 -- Carried by the fields, one by one.
-use Rattle.work_step.specs.Work.{frameStored}
+use Rattle.device_rules.specs.Work.{frameStored}
 use borrow.Author.Needs.{needs}
 use Rattle.work_step.proofs.frame_stored.Statement.{statement}
 use Rattle.work_step.proofs.frame_stored.Tie as tie

@@ -1,8 +1,8 @@
 -- Carried by the two tests.
 use native.Mathlib.Omega.{arith}
 use borrow.Author.Tests.{le-leb, lt-leb}
-use Rattle.work_step.specs.Work.{hasRoom}
-use Rattle.device_state.proofs.Buffers.{frame-most}
+use Rattle.device_rules.specs.Work.{hasRoom}
+use Rattle.device_rules.proofs.Buffers.{frame-most}
 use borrow.Author.Needs.{needs}
 use Rattle.work_step.proofs.has_room.Statement.{statement}
 use Rattle.work_step.proofs.has_room.Tie as tie

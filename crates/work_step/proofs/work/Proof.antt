@@ -8,9 +8,9 @@ use denote.Ref.{now}
 use lib.ListN.{length}
 use lib.Seq.{length-take-le}
 use Rattle.message.proofs.Parts.{part-from, put-from}
-use Rattle.work_step.specs.Work.{hasRoom}
-use Rattle.device_state.proofs.Buffers.{buffer-length, frame-most, frame-taken}
-use Rattle.work_step.proofs.Works.{idle-gives, short-gives, room, stored-gives}
+use Rattle.device_rules.specs.Work.{hasRoom}
+use Rattle.device_rules.proofs.Buffers.{buffer-length, frame-most, frame-taken}
+use Rattle.device_rules.proofs.Works.{idle-gives, short-gives, room, stored-gives}
 use borrow.Author.Needs.{needs}
 use Rattle.work_step.proofs.work.Statement.{statement}
 use Rattle.work_step.proofs.work.Tie as tie

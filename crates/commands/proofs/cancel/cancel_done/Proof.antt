@@ -1,6 +1,6 @@
 -- Carried by the fields, one by one.
 use mathlib.Core.Path.{refl}
-use Rattle.commands.specs.Commands.{cancelDone}
+use Rattle.device_rules.specs.Commands.{cancelDone}
 use Rattle.commands.proofs.cancel.cancel_done.Statement.{statement}
 use Rattle.commands.proofs.cancel.cancel_done.Tie as tie
 

@@ -7,7 +7,7 @@ use native.Mathlib.Omega.{arith}
 use denote.Ref.{now}
 use lib.ListN.{length, take, drop, replicate, length-set}
 use Rattle.message.proofs.Answers.{copy-step, copy-done}
-use Rattle.commands.specs.Commands.{frameDone}
+use Rattle.device_rules.specs.Commands.{frameDone}
 use Rattle.commands.proofs.frame.frame_done.Statement.{statement}
 use Rattle.commands.proofs.frame.frame_done.Tie as tie
 

@@ -1,6 +1,6 @@
 -- Carried by the fields, one by one.
 use mathlib.Core.Path.{refl}
-use Rattle.commands.specs.Commands.{setupDone}
+use Rattle.device_rules.specs.Commands.{setupDone}
 use Rattle.commands.proofs.setup.setup_done.Statement.{statement}
 use Rattle.commands.proofs.setup.setup_done.Tie as tie
 

@@ -1,6 +1,6 @@
 -- Carried by the fields, one by one.
 use mathlib.Core.Path.{refl}
-use Rattle.commands.specs.Commands.{takeDone}
+use Rattle.device_rules.specs.Commands.{takeDone}
 use Rattle.commands.proofs.take.take_done.Statement.{statement}
 use Rattle.commands.proofs.take.take_done.Tie as tie
 

@@ -1,5 +1,5 @@
 -- Carried by the link.
-use Rattle.device.specs.Receive.{answerSource}
+use Rattle.device_rules.specs.Receive.{answerSource}
 use borrow.Author.Needs.{needs}
 use Rattle.device.proofs.receiver.answer_source.Statement.{statement}
 use Rattle.device.proofs.receiver.answer_source.Tie as tie

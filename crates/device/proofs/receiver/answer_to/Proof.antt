@@ -1,5 +1,5 @@
 -- Carried by the fields, one by one.
-use Rattle.device.specs.Receive.{answerTo}
+use Rattle.device_rules.specs.Receive.{answerTo}
 use borrow.Author.Needs.{needs}
 use Rattle.device.proofs.receiver.answer_to.Statement.{statement}
 use Rattle.device.proofs.receiver.answer_to.Tie as tie

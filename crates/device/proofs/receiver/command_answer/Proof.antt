@@ -1,5 +1,5 @@
 -- Carried by the fault, or that there is none.
-use Rattle.device.specs.Receive.{commandAnswer}
+use Rattle.device_rules.specs.Receive.{commandAnswer}
 use borrow.Author.Needs.{needs}
 use Rattle.device.proofs.receiver.command_answer.Statement.{statement}
 use Rattle.device.proofs.receiver.command_answer.Tie as tie

@@ -1,14 +1,12 @@
 -- Carried by computation, once each number is known as its bytes.
 use Prim.Native.Nat.{_≤_}
-use mathlib.Core.Bool.{Bool, true, false, cond}
 use mathlib.Core.Path.{_≡_, refl, sym}
 use native.Mathlib.Omega.{arith}
-use mir.Val.{boolByte}
 use lib.ListN.{length}
 use lib.Seq.{length-take-le}
 use Rattle.little_endian.specs.LittleEndian.{toBytes}
-use Rattle.device.specs.Receive.{infoBytes}
-use Rattle.device_state.proofs.Buffers.{buffer-length, frame-most, frame-taken}
+use Rattle.device_rules.specs.Receive.{infoBytes}
+use Rattle.device_rules.proofs.Buffers.{buffer-length, frame-most, frame-taken}
 use borrow.Author.Needs.{needs}
 use Rattle.device.proofs.receiver.info_bytes.Statement.{statement}
 use Rattle.device.proofs.receiver.info_bytes.Tie as tie
@@ -58,20 +56,13 @@ array-read-t26 c = search needs
 array-read-t29 : tie.Need-array-read-t29
 array-read-t29 c = search needs
 
-is-finished-requires : tie.Need-is-finished-requires
-is-finished-requires c κs = search needs
-
-cast-t31 : tie.Need-cast-t31
-cast-t31 c = search needs
-
-flag : (b : Bool) → boolByte b ≡ cond b 1 0
-flag true = refl
-flag false = refl
+flags-requires : tie.Need-flags-requires
+flags-requires c κs = search needs
 
 returns : tie.Need-returns
 unfolding infoBytes toBytes
 returns c =
-    rw (c .before .before .before .before .before .u16-to-bytes .ensures, c .before .before .before .before .u16-to-bytes2 .ensures, c .before .u16-to-bytes3 .ensures, c .before .before .checksum .ensures, c .before .before .before .before .before .before .frame-length .ensures, frame-taken (c .before .before .before .before .before .before .before .before .args .device), flag (c .is-finished .result), c .is-finished .ensures)
+    rw (c .before .before .before .before .before .u16-to-bytes .ensures, c .before .before .before .before .u16-to-bytes2 .ensures, c .before .u16-to-bytes3 .ensures, c .before .before .checksum .ensures, c .before .before .before .before .before .before .frame-length .ensures, frame-taken (c .before .before .before .before .before .before .before .before .args .device), c .flags .ensures)
 
 pub info-bytes-spec : {M : Type 1} → statement M
 info-bytes-spec =
@@ -91,6 +82,5 @@ info-bytes-spec =
     array-read-t23
     array-read-t26
     array-read-t29
-    is-finished-requires
-    cast-t31
+    flags-requires
     returns)

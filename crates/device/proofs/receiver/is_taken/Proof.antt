@@ -1,6 +1,6 @@
 -- Carried by the link, and on RS485 by the destination.
 use borrow.Author.Tests.{eq-eqb, ne-eqb}
-use Rattle.device.specs.Receive.{isTaken}
+use Rattle.device_rules.specs.Receive.{isTaken}
 use borrow.Author.Needs.{needs}
 use Rattle.device.proofs.receiver.is_taken.Statement.{statement}
 use Rattle.device.proofs.receiver.is_taken.Tie as tie

@@ -1,5 +1,5 @@
 -- Carried by the kind.
-use Rattle.device.specs.Receive.{kindReply}
+use Rattle.device_rules.specs.Receive.{kindReply}
 use Rattle.device.proofs.Replies.{equal-gives, silence-gives, by-kind}
 use borrow.Author.Needs.{needs}
 use Rattle.device.proofs.receiver.reply.Statement.{statement}

@@ -1,6 +1,6 @@
 -- Carried by the ID.
 use borrow.Author.Tests.{eq-eqb, ne-eqb}
-use Rattle.device.specs.Receive.{telemetryReply}
+use Rattle.device_rules.specs.Receive.{telemetryReply}
 use borrow.Author.Needs.{needs}
 use Rattle.device.proofs.receiver.telemetry_reply.Statement.{statement}
 use Rattle.device.proofs.receiver.telemetry_reply.Tie as tie

@@ -1,6 +1,6 @@
 -- Carried by the length.
 use borrow.Author.Tests.{eq-eqb, ne-eqb}
-use Rattle.faults.specs.Faults.{fault, cancelFault}
+use Rattle.device_rules.specs.Faults.{fault, cancelFault}
 use Rattle.faults.proofs.cancel.cancel_fault.Statement.{statement}
 use Rattle.faults.proofs.cancel.cancel_fault.Tie as tie
 

@@ -1,6 +1,6 @@
 -- Carried by the tests in their order: each return rewrites with those that led there.
 use borrow.Author.Tests.{eq-eqb, ne-eqb, lt-ltb, le-ltb}
-use Rattle.faults.specs.Faults.{fault, frameFault}
+use Rattle.device_rules.specs.Faults.{fault, frameFault}
 use borrow.Author.Needs.{needs}
 use Rattle.faults.proofs.frame.frame_fault.Statement.{statement}
 use Rattle.faults.proofs.frame.frame_fault.Tie as tie

@@ -3,8 +3,8 @@ use mathlib.Core.Path.{ap, _∙_}
 use borrow.Author.Tests.{eq-eqb, ne-eqb, lt-ltb, le-ltb}
 use denote.Ref.{now}
 use Rattle.little_endian.specs.LittleEndian.{fromBytes}
-use Rattle.faults.specs.Faults.{fault, setupFault}
-use Rattle.faults.proofs.Payloads.{four-bytes}
+use Rattle.device_rules.specs.Faults.{fault, setupFault}
+use Rattle.device_rules.proofs.Payloads.{four-bytes}
 use borrow.Author.Needs.{needs}
 use Rattle.faults.proofs.setup.setup_fault.Statement.{statement}
 use Rattle.faults.proofs.setup.setup_fault.Tie as tie

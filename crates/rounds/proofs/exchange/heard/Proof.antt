@@ -3,7 +3,7 @@ use borrow.Author.Needs.{needs}
 use mathlib.Core.Path.{refl}
 use Rattle.message.specs.Answer.{verdictTold}
 use Rattle.upload.specs.Round.{hearTold}
-use Rattle.upload.specs.Rounds.{answerCheck}
+use Rattle.runs.specs.Rounds.{answerCheck}
 use Rattle.upload.specs.World.{senderOr}
 use Rattle.rounds.proofs.exchange.heard.Statement.{statement}
 use Rattle.rounds.proofs.exchange.heard.Tie as tie

@@ -1,0 +1,4 @@
+pub mod Buffers
+pub mod Payloads
+pub mod Faults
+pub mod Works

@@ -1,0 +1,57 @@
+-- The unit's state (document 01, "The unit").
+use Prim.Native.Nat.{ℕ}
+use mathlib.Core.Bool.{Bool, true, false, cond}
+use mathlib.Core.List.{List}
+use lib.Dec.{eqb}
+use lib.ListN.{take, replicate}
+use Rattle.message.specs.Answer.{Answer, refused, given, number}
+use Rattle.message.specs.declared.Verdict.{Verdict}
+use Rattle.message.specs.declared.Verdict.the-variants as Verdict·of
+use Rattle.link.specs.declared.Link.{Link}
+use Rattle.device_rules.specs.declared.Device.{Device}
+use Rattle.device_rules.specs.declared.Phase.{Phase}
+use Rattle.device_rules.specs.declared.Phase.the-variants.{Idle, Open, Finished}
+
+-- "The unit is idle, open or finished."
+abbrev pub isIdle : Phase → Bool
+isIdle Idle = true
+isIdle Open = false
+isIdle Finished = false
+
+abbrev pub isOpen : Phase → Bool
+isOpen Idle = false
+isOpen Open = true
+isOpen Finished = false
+
+abbrev pub isFinished : Phase → Bool
+isFinished Idle = false
+isFinished Open = false
+isFinished Finished = true
+
+-- The frame in the buffer.
+unfoldable pub frame : Device → List ℕ
+frame d = take (d .buffered) (d .buffer)
+
+-- A unit at first: idle, frame number 0xFFFF, nothing in the buffer, nothing stored.
+unfoldable pub newDevice : Link → ℕ → Device
+newDevice l own =
+    record {
+      link = l;
+      own = own;
+      phase = Idle;
+      number = 0xFFFF;
+      buffer = replicate 256 0;
+      buffered = 0;
+      pending = false;
+      size = 0;
+      stored = 0;
+    }
+
+-- "Making a unit with own address 0 is refused with 7 on every link."
+unfoldable pub make : Link → ℕ → Answer Device Unit
+make l own = cond (eqb own 0) (refused 7) (given (newDevice l own) tt)
+
+-- Document 01's number and values for each case of the answer, of making a unit and of the work step, with the unit that is given.
+unfoldable pub stepTold : Verdict → Device → Answer Device Unit
+stepTold Verdict·of.Passed d = given d tt
+stepTold (Verdict·of.Refused r) d = refused (number r)

@@ -1,0 +1,97 @@
+-- What the unit does with bytes that arrive (document 01, "The unit").
+use Prim.Native.Nat.{ℕ}
+use mathlib.Core.Bool.{Bool, true, cond, _||_}
+use mathlib.Core.List.{List, [], _∷_, _++_}
+use lib.Dec.{eqb}
+use lib.ListN.{length}
+use Rattle.message.specs.Answer.{Answer, refused, given}
+use Rattle.message.specs.declared.ErrorByte.the-variants.{Told}
+use Rattle.message.specs.declared.Kind.{Kind}
+use Rattle.message.specs.declared.Kind.the-variants as Kind·of
+use Rattle.message.specs.declared.Message.{Message}
+use Rattle.little_endian.specs.LittleEndian.{toBytes}
+use Rattle.checksum.specs.Checksum.{checksum}
+use Rattle.link.specs.Link.{linkRead, linkWrite}
+use Rattle.link.specs.declared.Link.{Link}
+use Rattle.link.specs.declared.Link.the-variants.{Uart, Rs485, Can, Csp}
+use Rattle.device_rules.specs.Device.{isFinished, frame}
+use Rattle.device_rules.specs.declared.Device.{Device}
+use Rattle.device_rules.specs.Faults.{commandFault}
+use Rattle.device_rules.specs.declared.Fault.{Fault}
+use Rattle.device_rules.specs.declared.Fault.the-variants.{None, Nack}
+use Rattle.device_rules.specs.Commands.{afterCommand}
+
+-- The unit after a call that was not refused: it answers, or it is silent.
+pub data Reply : Type 0 where
+  answers : Device → Reply
+  silent : Device → Reply
+
+-- "On RS485 a message for the unit's own address or for 0 is taken [..]; on CAN and CSP every message is the unit's", and on UART, which
+-- has no addresses.
+unfoldable pub isTaken : Link → ℕ → Message → Bool
+isTaken Uart own m = true
+isTaken Rs485 own m = eqb (m .destination) own || eqb (m .destination) 0
+isTaken Can own m = true
+isTaken Csp own m = true
+
+-- "Answered from its own address to the request's source"; "a CAN answer has the request's two addresses exchanged". Where the link has no
+-- addresses both are 0.
+unfoldable pub answerSource : Link → ℕ → Message → ℕ
+answerSource Uart own m = m .destination
+answerSource Rs485 own m = own
+answerSource Can own m = m .destination
+answerSource Csp own m = m .destination
+
+-- An answer to a request: of a kind, with an error byte and an index.
+unfoldable pub answerTo : Device → Message → Kind → ℕ → ℕ → Message
+answerTo d m k e i =
+    record { kind = k; id = m .id; source = answerSource (d .link) (d .own) m; destination = m .source; error = Told e; index = i }
+
+-- "Frame info answers seven bytes: number, buffered size, checksum, each 2 bytes, then flags: bit 0 set when finished."
+unfoldable pub infoBytes : Device → List ℕ
+infoBytes d =
+    toBytes 2 (d .number) ++ (toBytes 2 (length (frame d)) ++ (toBytes 2 (checksum (frame d)) ++ (cond (isFinished (d .phase)) 1 0 ∷ [])))
+
+-- The answer's bytes, with the unit as it is then.
+unfoldable pub answered : Device → Answer Unit (List ℕ) → Answer Reply (List ℕ)
+answered d (refused n) = refused n
+answered d (given u b) = given (answers d) b
+
+-- No answer: no bytes, so it is never refused.
+abbrev pub silence : Device → Answer Reply (List ℕ)
+silence d = given (silent d) []
+
+-- A nack with the fault, or an ack.
+unfoldable pub commandAnswer : Device → Message → Fault → Message
+commandAnswer d m None = answerTo d m Kind·of.TelecommandAck 0 0
+commandAnswer d m (Nack e i) = answerTo d m Kind·of.TelecommandNack e i
+
+-- The answer to a command, with the unit as the command leaves it.
+unfoldable pub commandReply : Device → Message → List ℕ → Fault → Answer Reply (List ℕ)
+commandReply d m p f = answered (afterCommand d (m .id) p f) (linkWrite (d .link) (commandAnswer d m f) [])
+
+-- "150 frame info | request | never." "Any other ID: error 1."
+unfoldable pub telemetryReply : Device → Message → Answer Reply (List ℕ)
+telemetryReply d m =
+    cond (eqb (m .id) 150)
+    (answered d (linkWrite (d .link) (answerTo d m Kind·of.TelemetryResponse 0 0) (infoBytes d)))
+    (answered d (linkWrite (d .link) (answerTo d m Kind·of.TelemetryNack 1 0) []))
+
+-- "Kinds other than tc and tlmreq get no answer."
+unfoldable pub kindReply : Kind → Device → ℕ → Message → List ℕ → Answer Reply (List ℕ)
+kindReply Kind·of.Telecommand d store m p = commandReply d m p (commandFault d store (m .id) p)
+kindReply Kind·of.TelecommandAck d store m p = silence d
+kindReply Kind·of.TelecommandNack d store m p = silence d
+kindReply Kind·of.TelemetryRequest d store m p = telemetryReply d m
+kindReply Kind·of.TelemetryResponse d store m p = silence d
+kindReply Kind·of.TelemetryNack d store m p = silence d
+kindReply Kind·of.Event d store m p = silence d
+
+-- "Others are passed over in silence." "Unreadable bytes get no answer."
+unfoldable pub messageReply : Device → ℕ → Answer Message (List ℕ) → Answer Reply (List ℕ)
+messageReply d store (refused n) = silence d
+messageReply d store (given m p) = cond (isTaken (d .link) (d .own) m) (kindReply (m .kind) d store m p) (silence d)
+
+-- Bytes arrive while a store of so many bytes is lent. The 8 comes with the lent output.
+unfoldable pub receive : Device → ℕ → List ℕ → Answer Reply (List ℕ)
+receive d store b = messageReply d store (linkRead (d .link) b)

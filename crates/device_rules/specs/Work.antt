@@ -1,0 +1,53 @@
+-- The work step (document 01, "The unit"): the unit afterwards, and the bytes that are laid over the store behind what is stored.
+use Prim.Native.Nat.{ℕ, _+_, _%_}
+use mathlib.Core.Bool.{Bool, false, cond, _&&_}
+use mathlib.Core.List.{List, [], _++_}
+use lib.Dec.{leb, eqb}
+use lib.ListN.{length, take, drop}
+use Rattle.message.specs.Answer.{Answer, refused, given, number, passed, require, after}
+use Rattle.device_rules.specs.Device.{frame}
+use Rattle.device_rules.specs.declared.Device.{Device}
+use Rattle.device_rules.specs.declared.Phase.the-variants.{Finished}
+
+-- "Stores a pending frame after what is stored, raises the number by one (after 0xFFFF comes 0, in sixteen bits), empties the buffer, and
+-- finishes when the size is reached."
+unfoldable pub frameStored : Device → Device
+frameStored d =
+    record {
+      link = d .link;
+      own = d .own;
+      phase = cond (eqb (d .stored + length (frame d)) (d .size)) Finished (d .phase);
+      number = (d .number + 1) % 65536;
+      buffer = d .buffer;
+      buffered = 0;
+      pending = false;
+      size = d .size;
+      stored = d .stored + length (frame d);
+    }
+
+-- 8: "if a frame is pending and the store is shorter than the size". A pending frame never ends past the size; of a state in which it did
+-- the frame is not stored either.
+unfoldable pub hasRoom : Device → ℕ → Bool
+hasRoom d store = leb (d .size) store && leb (d .stored + length (frame d)) (d .size)
+
+-- "With nothing pending it does nothing." With a store of so many bytes lent.
+unfoldable pub work : Device → ℕ → Answer Device (List ℕ)
+work d store =
+    cond (d .pending)
+    (after (require (hasRoom d store) 8 passed) (given (frameStored d) (frame d)))
+    (given d [])
+
+-- "Nothing but storing changes a byte of the store": the bytes go behind what was stored.
+unfoldable pub storeAfter : Device → Answer Device (List ℕ) → List ℕ → List ℕ
+storeAfter d (refused n) s = s
+storeAfter d (given d′ b) s = take (d .stored) s ++ (b ++ drop (d .stored + length b) s)
+
+-- The unit alone, without the bytes.
+unfoldable pub worked : Answer Device (List ℕ) → Answer Device Unit
+worked (refused n) = refused n
+worked (given d b) = given d tt
+
+-- The unit afterwards. "Nothing moves" where it is refused.
+unfoldable pub afterWork : Device → Answer Device (List ℕ) → Device
+afterWork d (refused n) = d
+afterWork d (given d′ b) = d′

@@ -1,0 +1,57 @@
+// The unit that takes an upload (document 01, "The unit"): its state and the answers of its calls. The state goes by value: each call takes it
+// and gives the next one.
+//
+// The rules are definitions of `specs/`: `Device` (the state, and a unit at first), `Faults` (why a command is not carried out), `Commands` (what
+// it does when it is), `Work` (the work step), `Receive` and `Answers` (bytes that arrive). Demand 3 is proved of these; the code stands above.
+use link::Link;
+use message::Refusal;
+use message::Verdict;
+
+pub enum Phase {
+    Idle,
+    Open,
+    Finished,
+}
+
+pub struct Device {
+    pub link: Link,
+    // The unit's own address.
+    pub own: u8,
+    pub phase: Phase,
+    // The number of the frame that was stored last; 0xFFFF before the first.
+    pub number: u16,
+    // The frame buffer, and how many of its bytes are the frame.
+    pub buffer: [u8; 256],
+    pub buffered: u16,
+    // The frame in the buffer waits for the work step.
+    pub pending: bool,
+    // The file's size, as the setup said it.
+    pub size: u32,
+    // How many bytes are counted as stored.
+    pub stored: u32,
+}
+
+// The answer of making a unit and of the work step. A refused work step leaves unit and store as they came.
+pub struct Stepped {
+    pub device: Device,
+    pub verdict: Verdict,
+}
+
+// Why a command is not carried out: none, or the error byte and the index of the nack.
+pub enum Fault {
+    None,
+    Nack(u8, u8),
+}
+
+// What receiving bytes comes to: an answer of this length lies at the start of the lent output, or there is none.
+pub enum Outcome {
+    Answer(usize),
+    Silent,
+    Refused(Refusal),
+}
+
+// The answer of receiving bytes. A refusal leaves unit and output as they came.
+pub struct Received {
+    pub device: Device,
+    pub outcome: Outcome,
+}

@@ -1,0 +1,71 @@
+-- A round as it is run (document 01, "The sender and its rounds"): its calls one after the other, up to the first that is refused, since of
+-- a refused call "nothing moves" and none of them "is a round".
+use Prim.Native.Nat.{ℕ}
+use mathlib.Core.Bool.{cond}
+use mathlib.Core.List.{List, [], _∷_}
+use mathlib.Core.Path.{_≡_}
+use Rattle.message.specs.Answer.{Answer, Check, refused, given, passed, failed}
+use Rattle.device_rules.specs.declared.Device.{Device}
+use Rattle.upload.specs.Demand.{Start}
+use Rattle.upload.specs.Schedule.{roundCalls, scheduled}
+use Rattle.upload.specs.Sender.{isRunning}
+use Rattle.upload.specs.World.{World, Call, works, asks, arrives, hears, workAnswer, askAnswer, arriveAnswer, hearAnswer, does, run}
+use Rattle.upload.specs.declared.Round.{Round}
+use Rattle.upload.specs.declared.Sender.{Sender}
+
+-- Unit, store and sender with nothing under way between them.
+abbrev pub atRest : Device → List ℕ → Sender → World
+atRest d store s = record { device = d; store = store; sender = s; request = []; answer = [] }
+
+-- A call's refusal, if it is refused.
+unfoldable pub answerCheck : {A B : Type 0} → Answer A B → Check
+answerCheck (refused n) = failed n
+answerCheck (given a b) = passed
+
+unfoldable pub callCheck : List ℕ → World → Call → Check
+callCheck file w (works l) = answerCheck (workAnswer w l)
+callCheck file w (asks l out) = answerCheck (askAnswer file w l out)
+callCheck file w (arrives b l out) = answerCheck (arriveAnswer w b l out)
+callCheck file w (hears l b) = answerCheck (hearAnswer file w l b)
+
+-- What is there where a check passes, and where it fails.
+unfoldable pub choose : {A : Type 0} → Check → A → A → A
+choose passed a b = a
+choose (failed n) a b = b
+
+-- The world after calls that end with the first refusal, and that refusal.
+unfoldable pub made : List ℕ → World → List Call → World
+made file w [] = w
+made file w (c ∷ h) = choose (callCheck file w c) (made file (does file w c) h) w
+
+unfoldable pub firstRefusal : List ℕ → World → List Call → Check
+firstRefusal file w [] = passed
+firstRefusal file w (c ∷ h) = choose (callCheck file w c) (firstRefusal file (does file w c) h) (callCheck file w c)
+
+unfoldable pub roundMade : List ℕ → World → Round → World
+roundMade file w r = made file w (roundCalls file w r)
+
+unfoldable pub roundRefusal : List ℕ → World → Round → Check
+roundRefusal file w r = firstRefusal file w (roundCalls file w r)
+
+-- Rounds one after the other until the sender ends, each with unit, store and sender as the last left them, and the first refusal among them.
+unfoldable pub roundsMade : List ℕ → World → List Round → World
+roundsMade file w [] = w
+roundsMade file w (r ∷ rs) = cond (isRunning (w .sender .state)) (roundsMade file (roundMade file (atRest (w .device) (w .store) (w .sender)) r) rs) w
+
+unfoldable pub roundsRefusal : List ℕ → World → List Round → Check
+roundsRefusal file w [] = passed
+roundsRefusal file w (r ∷ rs) =
+    let v = atRest (w .device) (w .store) (w .sender) in
+    cond (isRunning (w .sender .state)) (choose (roundRefusal file v r) (roundsRefusal file (roundMade file v r) rs) (roundRefusal file v r)) passed
+
+-- The same unit, store and sender.
+pub record Same (v w : World) : Type 0 where
+  pub device : v .device ≡ w .device
+  pub store : v .store ≡ w .store
+  pub sender : v .sender ≡ w .sender
+
+-- After an accepted setup no round is refused, and rounds that are run so make what demand 3 says of their calls.
+abbrev pub EveryRun : Type 0
+EveryRun =
+    (file : List ℕ) (w : World) → Start file w → (rs : List Round) → (roundsRefusal file w rs ≡ passed) × Same (roundsMade file w rs) (run file w (scheduled file w rs))
