@@ -1,8 +1,8 @@
 -- Carried by the count of arguments.
 use Prim.Native.Nat.{_-_}
 use borrow.Author.Needs.{needs}
-use Rattle.frames_vectors.proofs.main.Statement.{statement}
-use Rattle.frames_vectors.proofs.main.Tie as tie
+use Rattle.replay.proofs.main.Statement.{statement}
+use Rattle.replay.proofs.main.Tie as tie
 
 abbrev Inv-loop : tie.InvT-loop
 Inv-loop count i₀ i = Unit
@@ -13,11 +13,17 @@ abbrev μ-loop : tie.MeasureT-loop
 arg-count-requires : tie.Need-arg-count-requires Inv-loop μ-loop
 arg-count-requires c κs = search needs
 
+run-requires : tie.Need-run-requires Inv-loop μ-loop
+run-requires c κs = search needs
+
+returns : tie.Need-returns Inv-loop μ-loop
+returns c = search needs
+
 loop-holds : tie.Need-loop-holds Inv-loop μ-loop
 loop-holds c = search needs
 
-list-file-requires : tie.Need-list-file-requires Inv-loop μ-loop
-list-file-requires c κs = search needs
+run-argument-requires : tie.Need-run-argument-requires Inv-loop μ-loop
+run-argument-requires c κs = search needs
 
 add-i : tie.Need-add-i Inv-loop μ-loop
 add-i c = search needs
@@ -28,8 +34,8 @@ loop-less c = search needs
 loop-again : tie.Need-loop-again Inv-loop μ-loop
 loop-again c = search needs
 
-returns : tie.Need-returns Inv-loop μ-loop
-returns c = search needs
+returns-2 : tie.Need-returns-2 Inv-loop μ-loop
+returns-2 c = search needs
 
 pub main-spec : {M : Type 1} → statement M
 main-spec =
@@ -38,9 +44,11 @@ main-spec =
     Inv-loop
     μ-loop
     arg-count-requires
+    run-requires
+    returns
     loop-holds
-    list-file-requires
+    run-argument-requires
     add-i
     loop-less
     loop-again
-    returns)
+    returns-2)
