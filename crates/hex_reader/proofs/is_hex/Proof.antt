@@ -1,13 +1,13 @@
 -- Carried by the tests of the length, and by what the digits' loop answers.
 use borrow.Author.Tests.{eq-eqb, ne-eqb}
 use Rattle.hex.specs.Hex.{isHex}
 use Prim.Native.Nat.{_%_}
 use native.Mathlib.Omega.{arith}
 use borrow.Author.Needs.{needs}
 use lib.ListN.{length}
 use denote.Ref.{now}
-use Rattle.hex.proofs.read.is_hex.Statement.{statement}
-use Rattle.hex.proofs.read.is_hex.Tie as tie
+use Rattle.hex_reader.proofs.is_hex.Statement.{statement}
+use Rattle.hex_reader.proofs.is_hex.Tie as tie
 
 returns : tie.Need-returns
 unfolding isHex

@@ -1,13 +1,13 @@
-// Byte strings, read.
+// Reading byte strings in hexadecimal digits, by the rules of `hex`.
 ghost use mathlib.Core.Bool.{true};
 ghost use mathlib.Core.Path.{_≡_};
 ghost use Prim.Native.Nat.{_/_, _≤_};
 ghost use lib.ListN.{length};
 ghost use lib.Seq.{sets};
 ghost use Rattle.digits.specs.Digits.{allDigits};
 ghost use Rattle.hex.specs.Hex.{isDash, isHex, pairs, readHex, within, told, laid};
-use crate::HexAnswer;
 use digits::digit_value;
+use hex::HexAnswer;
 
 // The word `-`.
 fn is_dash(word: &[u8]) -> bool

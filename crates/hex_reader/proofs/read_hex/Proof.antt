@@ -4,11 +4,11 @@ use mathlib.Core.List.{[]}
 use native.Mathlib.Omega.{arith}
 use borrow.Author.Tests.{not-true, not-false}
 use denote.Ref.{now}
 use Rattle.hex.specs.Hex.{pairs, within, told, laid}
 use Rattle.hex.proofs.HexLaws.{too-short, long-enough, length-pairs, read-dash, read-bad, read-pairs, hex-digits}
 use borrow.Author.Needs.{needs}
-use Rattle.hex.proofs.read.read_hex.Statement.{statement}
-use Rattle.hex.proofs.read.read_hex.Tie as tie
+use Rattle.hex_reader.proofs.read_hex.Statement.{statement}
+use Rattle.hex_reader.proofs.read_hex.Tie as tie
 
 is-dash-requires : tie.Need-is-dash-requires
 is-dash-requires c κs = search needs

@@ -6,10 +6,10 @@ use borrow.Author.Needs.{needs}
 use lib.ListN.{length, drop, length-set}
 use lib.Seq.{sets}
 use denote.Ref.{now}
 use Rattle.hex.specs.Hex.{hexDigits}
 use Rattle.hex.proofs.HexLaws.{print-turn, print-end}
-use Rattle.hex.proofs.write.store_digits.Statement.{statement}
-use Rattle.hex.proofs.write.store_digits.Tie as tie
+use Rattle.hex_writer.proofs.store_digits.Statement.{statement}
+use Rattle.hex_writer.proofs.store_digits.Tie as tie
 
 abbrev Inv-loop : tie.InvT-loop
 Inv-loop bytes out₀ i₀ out i = (i ≤ length bytes) × (length out ≡ length out₀) × (sets out (i * 2) (hexDigits (drop i bytes)) ≡ sets out₀ 0 (hexDigits bytes))

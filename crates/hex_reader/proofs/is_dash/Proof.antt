@@ -1,9 +1,9 @@
 -- Carried by the tests of the length and of the one byte.
 use borrow.Author.Needs.{needs}
 use borrow.Author.Tests.{eq-eqb, ne-eqb}
 use Rattle.hex.specs.Hex.{isDash}
-use Rattle.hex.proofs.read.is_dash.Statement.{statement}
-use Rattle.hex.proofs.read.is_dash.Tie as tie
+use Rattle.hex_reader.proofs.is_dash.Statement.{statement}
+use Rattle.hex_reader.proofs.is_dash.Tie as tie
 
 returns : tie.Need-returns
 unfolding isDash

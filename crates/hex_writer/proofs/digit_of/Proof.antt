@@ -3,8 +3,8 @@ use native.Mathlib.Omega.{arith}
 use borrow.Author.Tests.{lt-ltb, le-ltb}
 use Rattle.digits.specs.Digits.{digitOf}
 use borrow.Author.Needs.{needs}
-use Rattle.hex.proofs.write.digit_of.Statement.{statement}
-use Rattle.hex.proofs.write.digit_of.Tie as tie
+use Rattle.hex_writer.proofs.digit_of.Statement.{statement}
+use Rattle.hex_writer.proofs.digit_of.Tie as tie
 
 add-result : tie.Need-add-result
 add-result c = search needs

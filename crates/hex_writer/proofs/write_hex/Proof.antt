@@ -2,11 +2,11 @@
 use mathlib.Core.List.{[], _∷_}
 use native.Mathlib.Omega.{arith}
 use denote.Ref.{now}
 use Rattle.hex.specs.Hex.{hexDigits}
 use Rattle.hex.proofs.HexLaws.{too-short, long-enough, length-hexDigits, printed-none, printed-some}
 use borrow.Author.Needs.{needs}
-use Rattle.hex.proofs.write.write_hex.Statement.{statement}
-use Rattle.hex.proofs.write.write_hex.Tie as tie
+use Rattle.hex_writer.proofs.write_hex.Statement.{statement}
+use Rattle.hex_writer.proofs.write_hex.Tie as tie
 
 returns : tie.Need-returns
 returns c =

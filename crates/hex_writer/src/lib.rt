@@ -1,11 +1,11 @@
-// Byte strings, printed.
+// Printing byte strings in hexadecimal digits, by the rules of `hex`.
 ghost use mathlib.Core.Path.{_≡_};
 ghost use Prim.Native.Nat.{_*_, _≤_, _<_};
 ghost use lib.ListN.{length};
 ghost use lib.Seq.{sets};
 ghost use Rattle.digits.specs.Digits.{digitOf};
 ghost use Rattle.hex.specs.Hex.{hexDigits, printed, given, within, told, laid};
-use crate::HexAnswer;
+use hex::HexAnswer;
 
 // The capital digit of a number.
 fn digit_of(n: u8) -> u8

@@ -6,11 +6,11 @@ use borrow.Author.Needs.{needs}
 use lib.ListN.{length, drop, length-set}
 use lib.Seq.{sets}
 use denote.Ref.{now}
 use Rattle.hex.specs.Hex.{pairs}
 use Rattle.digits.proofs.DigitLaws.{digit-at}
 use Rattle.hex.proofs.HexLaws.{read-turn, read-end}
-use Rattle.hex.proofs.read.store_bytes.Statement.{statement}
-use Rattle.hex.proofs.read.store_bytes.Tie as tie
+use Rattle.hex_reader.proofs.store_bytes.Statement.{statement}
+use Rattle.hex_reader.proofs.store_bytes.Tie as tie
 
 abbrev Inv-loop : tie.InvT-loop
 Inv-loop word out₀ n i₀ out i = (i ≤ length word / 2) × (length out ≡ length out₀) × (sets out i (pairs (drop (i * 2) word)) ≡ sets out₀ 0 (pairs word))

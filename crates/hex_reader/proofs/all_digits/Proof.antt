@@ -7,8 +7,8 @@ use lib.ListN.{length, drop, drop-of-length-le}
 use denote.Ref.{now}
 use Rattle.digits.specs.Digits.{allDigits}
 use Rattle.digits.proofs.DigitLaws.{all-digit, all-other}
-use Rattle.hex.proofs.read.all_digits.Statement.{statement}
-use Rattle.hex.proofs.read.all_digits.Tie as tie
+use Rattle.hex_reader.proofs.all_digits.Statement.{statement}
+use Rattle.hex_reader.proofs.all_digits.Tie as tie
 
 abbrev Inv-loop : tie.InvT-loop
 Inv-loop word i₀ i = (i ≤ length word) × (allDigits 16 (drop i word) ≡ allDigits 16 word)
