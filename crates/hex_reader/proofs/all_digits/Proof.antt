@@ -1,6 +1,6 @@
 -- Carried by the laws of digits: what is left from here on decides.
 use Prim.Native.Nat.{_-_, _≤_}
-use mathlib.Core.Path.{_≡_}
+use mathlib.Core.Path.{_≡_, sym, _∙_}
 use native.Mathlib.Omega.{arith}
 use borrow.Author.Needs.{needs}
 use lib.ListN.{length, drop, drop-of-length-le}
@@ -28,7 +28,7 @@ digit-value-requires c κs = search needs
 returns : tie.Need-returns Inv-loop μ-loop
 returns c =
     let l = c .before .before .before .before .loop in
-    cc (all-other 16 (now (c .before .before .before .before .before .before .args .word)) (l .i) (omega arith) (omega arith))
+    sym (all-other 16 (now (c .before .before .before .before .before .before .args .word)) (l .i) (omega arith) (omega arith)) ∙ l .inv .1
 
 add-i : tie.Need-add-i Inv-loop μ-loop
 add-i c = search needs
@@ -39,7 +39,7 @@ loop-less c = search needs
 loop-again : tie.Need-loop-again Inv-loop μ-loop
 loop-again c =
     let l = c .before .before .before .before .loop in
-    (omega arith, cc (all-digit 16 (now (c .before .before .before .before .before .before .args .word)) (l .i) (omega arith) (omega arith)))
+    (omega arith, sym (all-digit 16 (now (c .before .before .before .before .before .before .args .word)) (l .i) (omega arith) (omega arith)) ∙ l .inv .1)
 
 returns-2 : tie.Need-returns-2 Inv-loop μ-loop
 unfolding allDigits
