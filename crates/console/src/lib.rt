@@ -1,5 +1,5 @@
-// Puts the library's calls on text lines: a script has one call to a line, and each line is answered by one. The programs `replay` and
-// `replay_vectors` are thin over it.
+// Puts the library's calls on text lines: a script has one call to a line, and each line is answered by one. The program `replay` is thin over
+// it.
 mod call;
 mod input;
 mod keep;

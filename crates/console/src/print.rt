@@ -53,7 +53,7 @@ pub(crate) fn last(out: &[u8]) {
 // A byte string, of at most 4,096 bytes.
 pub(crate) fn bytes(bytes: &[u8]) {
     let mut space = [0u8; 8192];
-    if let HexAnswer::Length(n) = hex::write_hex(bytes, &mut space) {
+    if let HexAnswer::Length(n) = hex_writer::write_hex(bytes, &mut space) {
         text(front(&space, n));
     }
 }

@@ -68,7 +68,7 @@ fn place(word: &[u8], from: usize, to: usize) -> Value {
 }
 
 fn byte_string(word: &[u8], room: &mut [u8]) -> Value {
-    match hex::read_hex(word, room) {
+    match hex_reader::read_hex(word, room) {
         HexAnswer::Length(n) => Value::Is(n),
         HexAnswer::Bad => Value::Bad,
     }

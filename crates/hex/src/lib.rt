@@ -1,11 +1,6 @@
-// Byte strings in hexadecimal digits, as a script has them.
+// Byte strings in hexadecimal digits, as a script has them. `hex_reader` and `hex_writer` stand on it.
 //
 // The rules are definitions of `specs/Hex.antt`: byte strings as they are printed and read, and what a lent output holds afterwards.
-mod read;
-mod write;
-
-pub use read::read_hex;
-pub use write::write_hex;
 
 // What reading or printing a byte string comes to.
 pub enum HexAnswer {

@@ -1,9 +1,9 @@
 -- Carried by the laws of splitting: the first word from where word k begins is word k.
 use mathlib.Core.Path.{ap, sym, _∙_}
 use borrow.Author.Needs.{needs}
-use lib.ListN.{length, take, drop}
-use Prim.Native.Nat.{_-_}
+use lib.ListN.{length}
 use denote.Ref.{now}
+use Rattle.words.specs.Words.{firstWord}
 use Rattle.words.proofs.WordLaws.{first-part, rest}
 use Rattle.words.proofs.word.Statement.{statement}
 use Rattle.words.proofs.word.Tie as tie
@@ -30,7 +30,7 @@ returns : tie.Need-returns
 returns c =
     let start = c .before .before .before .word-start in
     let line = now (c .before .before .before .before .before .args .line) in
-    cc (first-part (take (length line - start .result) (drop (start .result) line)) (c .before .first-length .result) (c .before .first-length .ensures), rest line (start .result))
+    first-part _ _ (c .before .first-length .ensures) ∙ (ap firstWord (rest line (start .result)) ∙ start .ensures .1)
 
 pub word-spec : {M : Type 1} → statement M
 word-spec =

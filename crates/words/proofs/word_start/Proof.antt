@@ -45,8 +45,8 @@ loop-again c =
     let a = c .before .before .before .before .before .args .line in
     let l = c .before .before .before .before .loop in (
       omega arith,
-      ⊎-elim (λ w. cc (past-space (now a) (l .i) (omega arith) (l .left) (omega arith) (w .0 .taken)))
-          (λ w. cc (past-other (now a) (l .i) (omega arith) (l .left) (omega arith) (w .0 .left)))
+      ⊎-elim (λ w. rw (w .1) (sym (past-space (now a) (l .i) (omega arith) (l .left) (omega arith) (w .0 .taken)) ∙ l .inv .1))
+          (λ w. rw (w .1) (sym (past-other (now a) (l .i) (omega arith) (l .left) (omega arith) (w .0 .left)) ∙ l .inv .1))
           (c .if2 .came),
     )
 

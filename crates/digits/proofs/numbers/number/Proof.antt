@@ -65,7 +65,8 @@ loop-again : tie.Need-loop-again Inv-loop μ-loop
 loop-again c =
     let a = c .before .before .before .before .before .before .before .before .args in
     let l = c .before .before .before .before .before .loop in
-    (omega arith, omega arith, cc (number-digit (a .most) (l .value) (now (a .word)) (l .i) (omega arith) (omega arith)))
+    let turn = number-digit (a .most) (l .value) (now (a .word)) (l .i) (omega arith) (omega arith) in
+    (omega arith, omega arith, rw (c .before .before .digit-value .ensures) (sym turn ∙ l .inv .2))
 
 cast-t15 : tie.Need-cast-t15 Inv-loop μ-loop
 cast-t15 c = search needs
