@@ -1,19 +1,19 @@
 // The checks that reading and writing share, in their order: 9 the link, 5 the ID, 6 the length, 7 the error byte.
 // The rules are definitions of `message`: `Checks` (the rows) and `Kinds` (the ranges).
-mod ranges;
+mod legal;
 
 ghost use mathlib.Core.Path.{_≡_};
 ghost use Rattle.message.specs.Answer.{verdictTold};
 ghost use Rattle.message.specs.Checks.{fieldChecks, told, writable, writeChecks, bodyFits, bodyChecks};
+use legal::error_legal;
+use legal::id_legal;
+use legal::payload_legal;
 use message::Carries;
 use message::ErrorByte;
 use message::Kind;
 use message::Message;
 use message::Refusal;
 use message::Verdict;
-use ranges::error_legal;
-use ranges::id_legal;
-use ranges::payload_legal;
 
 // The checks 9, 5, 6 and 7 of a message that is to be written with a payload of this length.
 pub fn check_written(link: Carries, message: Message, length: usize) -> Verdict

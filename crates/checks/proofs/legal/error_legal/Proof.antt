@@ -2,8 +2,8 @@
 use borrow.Author.Needs.{needs}
 use Rattle.message.specs.Checks.{errorLegal}
 use Rattle.message.specs.Kinds.{isAck}
-use Rattle.checks.proofs.ranges.error_legal.Statement.{statement}
-use Rattle.checks.proofs.ranges.error_legal.Tie as tie
+use Rattle.checks.proofs.legal.error_legal.Statement.{statement}
+use Rattle.checks.proofs.legal.error_legal.Tie as tie
 
 enum-known-error : tie.Need-enum-known-error
 enum-known-error c = search needs

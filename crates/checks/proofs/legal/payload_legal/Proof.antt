@@ -1,8 +1,8 @@
 -- Carried by congruence: the row has the kind's range.
 use borrow.Author.Needs.{needs}
 use Rattle.message.specs.Checks.{payloadLegal}
-use Rattle.checks.proofs.ranges.payload_legal.Statement.{statement}
-use Rattle.checks.proofs.ranges.payload_legal.Tie as tie
+use Rattle.checks.proofs.legal.payload_legal.Statement.{statement}
+use Rattle.checks.proofs.legal.payload_legal.Tie as tie
 
 row-of-requires : tie.Need-row-of-requires
 row-of-requires c κs = search needs

@@ -1,8 +1,8 @@
 -- Carried by the case of the kind.
 use mathlib.Core.Path.{refl}
 use borrow.Author.Needs.{needs}
-use Rattle.checks.proofs.ranges.row_of.Statement.{statement}
-use Rattle.checks.proofs.ranges.row_of.Tie as tie
+use Rattle.ranges.proofs.row_of.Statement.{statement}
+use Rattle.ranges.proofs.row_of.Tie as tie
 
 enum-told : tie.Need-enum-told
 enum-told c = search needs

@@ -1,8 +1,8 @@
 -- Carried by the tests of the two ends.
 use borrow.Author.Tests.{le-leb, lt-leb}
 use Rattle.message.specs.Kinds.{inside}
-use Rattle.checks.proofs.ranges.contains.Statement.{statement}
-use Rattle.checks.proofs.ranges.contains.Tie as tie
+use Rattle.checks.proofs.legal.contains.Statement.{statement}
+use Rattle.checks.proofs.legal.contains.Tie as tie
 
 returns : tie.Need-returns
 unfolding inside
