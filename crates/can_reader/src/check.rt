@@ -34,7 +34,7 @@ fn kind_of_type(t: u8) -> Kind
 fn can_error(kind: Kind) -> ErrorByte
     ensures { λ r. ⌜ r ≡ canError kind ⌝ }
 {
-    if kind.error_length() == 2 {
+    if kinds::error_length(kind) == 2 {
         return ErrorByte::NotTold;
     }
     ErrorByte::Told(0)
@@ -61,7 +61,7 @@ pub(crate) fn can_message(bytes: &[u8]) -> Message
 fn event_id_legal(kind: Kind, id: u8) -> bool
     ensures { λ r. ⌜ r ≡ cond (isEvent kind) (eqb id 255) true ⌝ }
 {
-    if kind.type_number() == 9 {
+    if kinds::type_number(kind) == 9 {
         return id == 255;
     }
     true

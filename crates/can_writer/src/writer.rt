@@ -54,7 +54,7 @@ fn in_series(kind: Kind, length: usize) -> bool
 fn is_event(kind: Kind) -> bool
     ensures { λ r. ⌜ r ≡ isEvent kind ⌝ }
 {
-    kind.type_number() == 9
+    kinds::type_number(kind) == 9
 }
 
 // The type of a kind in a series.
@@ -81,7 +81,7 @@ fn write_single(message: Message, payload: &[u8], out: &mut [u8]) -> WriteAnswer
         return WriteAnswer::Refused(Refusal::OutputTooShort);
     }
     let kind = message.kind;
-    let number = kind.type_number();
+    let number = kinds::type_number(kind);
     put_single(message, number, payload, out);
     WriteAnswer::Length(13)
 }

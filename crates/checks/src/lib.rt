@@ -55,7 +55,7 @@ fn writable(link: Carries, message: Message) -> bool
     ensures { λ r. ⌜ r ≡ writable link message ⌝ }
 {
     let kind = message.kind;
-    if kind.type_number() == 9 {
+    if kinds::type_number(kind) == 9 {
         return link.events;
     }
     if link.untold {
@@ -70,14 +70,14 @@ fn told(kind: Kind, error: ErrorByte) -> bool
 {
     match error {
         ErrorByte::Told(_) => true,
-        ErrorByte::NotTold => kind.error_length() != 2,
+        ErrorByte::NotTold => kinds::error_length(kind) != 2,
     }
 }
 
 fn body_fits(kind: Kind, length: usize) -> bool
     ensures { λ r. ⌜ r ≡ bodyFits kind length ⌝ }
 {
-    let tells = kind.error_length();
+    let tells = kinds::error_length(kind);
     if length < tells {
         return false;
     }

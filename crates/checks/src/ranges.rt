@@ -54,6 +54,6 @@ pub(crate) fn error_legal(kind: Kind, error: ErrorByte) -> bool
             let range = row.2;
             contains(range, e as usize)
         }
-        ErrorByte::NotTold => kind.error_length() != 1,
+        ErrorByte::NotTold => kinds::error_length(kind) != 1,
     }
 }

@@ -80,7 +80,7 @@ pub(crate) fn refused_line(refusal: Refusal) {
 }
 
 pub(crate) fn refused(refusal: Refusal) {
-    counted(b"refused", refusal.number() as usize);
+    counted(b"refused", fields::refusal_number(refusal) as usize);
 }
 
 // ` PHASE NUMBER BUFFERED CHECKSUM PENDING STORED SIZE` of a unit.

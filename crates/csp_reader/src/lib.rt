@@ -24,7 +24,7 @@ pub fn read(bytes: &[u8], out: &mut [u8]) -> ReadAnswer
         return ReadAnswer::Refused(Refusal::Truncated);
     }
     let id = bytes[1];
-    match message::type_kind(bytes[0]) {
+    match kinds::type_kind(bytes[0]) {
         TypeKind::Unknown => ReadAnswer::Refused(Refusal::UnknownStart),
         TypeKind::Known(kind) => read_body(kind, id, &bytes[2..], out),
     }
@@ -45,11 +45,11 @@ fn read_body(kind: Kind, id: u8, body: &[u8], out: &mut [u8]) -> ReadAnswer
         error,
         index,
     };
-    let message = raw.carried();
+    let message = fields::carried(raw);
     match checks::check_body(message, body.len()) {
         Verdict::Refused(refusal) => ReadAnswer::Refused(refusal),
         Verdict::Passed => {
-            let payload = kind.error_length();
+            let payload = kinds::error_length(kind);
             read_payload(message, &body[payload..], out)
         }
     }

@@ -36,7 +36,7 @@ fn write_checked(message: Message, payload: &[u8], out: &mut [u8]) -> WriteAnswe
     ensures { λ _. ⌜ now (out .exit) ≡ laid (within (now (out .entry)) (written (cspHead message ++ now (payload .entry)))) (now (out .entry)) ⌝ }
 {
     let kind = message.kind;
-    let head = 2 + kind.error_length();
+    let head = 2 + kinds::error_length(kind);
     if out.len() < head {
         return WriteAnswer::Refused(Refusal::OutputTooShort);
     }
@@ -55,14 +55,14 @@ fn put_head(message: Message, out: &mut [u8])
     ensures { λ _. ⌜ now (out .exit) ≡ sets (now (out .entry)) 0 (cspHead message) ⌝ }
 {
     let kind = message.kind;
-    out[0] = kind.type_number();
+    out[0] = kinds::type_number(kind);
     out[1] = message.id;
-    let tells = kind.error_length();
+    let tells = kinds::error_length(kind);
     if tells == 0 {
         return;
     }
     let error = message.error;
-    out[2] = error.number();
+    out[2] = fields::error_number(error);
     if tells == 1 {
         return;
     }

@@ -44,7 +44,7 @@ pub(crate) fn refused_line(at: usize, refusal: Refusal) -> Line
         name: Name::Refused,
         id: Field::Dash,
         length: Field::Dash,
-        code: Field::Number(refusal.number() as usize),
+        code: Field::Number(fields::refusal_number(refusal) as usize),
     }
 }
 
@@ -60,7 +60,7 @@ fn message_line(at: usize, message: Message, length: usize) -> Line
         at,
         name: Name::Kind(kind),
         id,
-        length: Field::Number(kind.error_length() + length),
+        length: Field::Number(kinds::error_length(kind) + length),
         code,
     }
 }
@@ -70,7 +70,7 @@ fn id_of(message: Message) -> Field
     ensures { λ r. ⌜ r ≡ idOf message ⌝ }
 {
     let kind = message.kind;
-    if kind.type_number() == 9 {
+    if kinds::type_number(kind) == 9 {
         return Field::Dash;
     }
     Field::Number(message.id as usize)
@@ -81,11 +81,11 @@ fn code_of(message: Message) -> Field
     ensures { λ r. ⌜ r ≡ codeOf message ⌝ }
 {
     let kind = message.kind;
-    if kind.error_length() < 1 {
+    if kinds::error_length(kind) < 1 {
         return Field::Dash;
     }
     let error = message.error;
-    Field::Number(error.number() as usize)
+    Field::Number(fields::error_number(error) as usize)
 }
 
 // Puts a line at a place of out, and gives the place behind it.

@@ -2,14 +2,7 @@
 //
 // The rules are definitions of `specs/`: `Kinds` (which IDs, lengths and error bytes a kind has), `Checks` (the order of
 // the refusals 5, 6, 7), `Body` (the data on UART, RS485 and CSP) and `Answer` (what a refusal or an answer is). The code of
-// `Checks` is the crate `checks`, and bytes reach a lent output by the crate `output`.
-mod table;
-
-pub use table::type_kind;
-ghost use mathlib.Core.Path.{_≡_};
-ghost use Rattle.message.specs.Answer.{number};
-ghost use Rattle.message.specs.Body.{errorNumber};
-ghost use Rattle.message.specs.Kinds.{carried};
+// the tables is the crate `kinds`, that of the fields `fields`, that of `Checks` `checks`; bytes reach a lent output by `output`.
 
 // The seven kinds, with document 01's name for each.
 pub enum Kind {
@@ -107,69 +100,4 @@ pub struct Carries {
 pub enum TypeKind {
     Known(Kind),
     Unknown,
-}
-
-impl Refusal {
-    // Document 01's number.
-    pub fn number(self) -> u8
-        ensures { λ r. ⌜ r ≡ number self ⌝ }
-    {
-        match self {
-            Refusal::Truncated => 1,
-            Refusal::UnknownStart => 2,
-            Refusal::BrokenEscape => 3,
-            Refusal::TrailingBytes => 4,
-            Refusal::IdOutOfRange => 5,
-            Refusal::WrongLength => 6,
-            Refusal::IllegalValue => 7,
-            Refusal::OutputTooShort => 8,
-            Refusal::NotWritable => 9,
-            Refusal::SeriesMismatch => 10,
-            Refusal::IllegalFileSize => 11,
-        }
-    }
-}
-
-impl ErrorByte {
-    // The byte on a link that carries it; 0 where it is not told, which such a link never writes.
-    pub fn number(self) -> u8
-        ensures { λ r. ⌜ r ≡ errorNumber self ⌝ }
-    {
-        match self {
-            ErrorByte::Told(e) => e,
-            ErrorByte::NotTold => 0,
-        }
-    }
-}
-
-impl Message {
-    // The message with 0 in the fields that its kind does not carry.
-    pub fn carried(self) -> Message
-        ensures { λ r. ⌜ r ≡ carried self ⌝ }
-    {
-        let kind = self.kind;
-        let error = self.error;
-        let tells = kind.error_length();
-        if tells == 0 {
-            return Message {
-                kind,
-                id: self.id,
-                source: self.source,
-                destination: self.destination,
-                error: ErrorByte::Told(0),
-                index: 0,
-            };
-        }
-        if tells == 1 {
-            return Message {
-                kind,
-                id: self.id,
-                source: self.source,
-                destination: self.destination,
-                error,
-                index: 0,
-            };
-        }
-        self
-    }
 }

@@ -140,14 +140,14 @@ fn read_data(
         error,
         index,
     };
-    let message = raw.carried();
+    let message = fields::carried(raw);
     match checks::check_body(message, count - head) {
         Verdict::Refused(refusal) => ReadAnswer::Refused(refusal),
         Verdict::Passed => {
             if !source_legal(link, source) {
                 return ReadAnswer::Refused(Refusal::IllegalValue);
             }
-            let skipped = head + kind.error_length();
+            let skipped = head + kinds::error_length(kind);
             read_payload(message, bytes, count, skipped, out)
         }
     }

@@ -80,12 +80,12 @@ fn error_bytes_length(message: Message) -> usize
     ensures { λ r. ⌜ (r ≡ length (doubled (errorBytes message))) × (r ≤ 4) ⌝ }
 {
     let kind = message.kind;
-    let tells = kind.error_length();
+    let tells = kinds::error_length(kind);
     if tells == 0 {
         return 0;
     }
     let error = message.error;
-    let first = byte_length(error.number());
+    let first = byte_length(fields::error_number(error));
     if tells == 1 {
         return first;
     }
@@ -136,12 +136,12 @@ fn put_error(message: Message, out: &mut [u8], at: usize) -> usize
     ensures { λ _. ⌜ now (out .exit) ≡ sets (now (out .entry)) at (doubled (errorBytes message)) ⌝ }
 {
     let kind = message.kind;
-    let tells = kind.error_length();
+    let tells = kinds::error_length(kind);
     if tells == 0 {
         return at;
     }
     let error = message.error;
-    let number = error.number();
+    let number = fields::error_number(error);
     if tells == 1 {
         return put(number, out, at);
     }

@@ -14,7 +14,7 @@ pub(crate) fn number(n: u32) {
 
 pub(crate) fn refused(refusal: Refusal) {
     text(b"refused ");
-    io::print_decimal(STDOUT_FILENO, refusal.number() as u64);
+    io::print_decimal(STDOUT_FILENO, fields::refusal_number(refusal) as u64);
     text(b"\n");
 }
 

@@ -28,8 +28,8 @@ returns : tie.Need-returns
 unfolding cspHead errorBytes
 returns c = rw (← c .before .before .type-number .ensures, ← c .before .error-length .ensures, c .if1 .taken)
 
-number-requires : tie.Need-number-requires
-number-requires c κs = search needs
+error-number-requires : tie.Need-error-number-requires
+error-number-requires c κs = search needs
 
 slice-write-out-3 : tie.Need-slice-write-out-3
 slice-write-out-3 c = simp length-set (omega (arith, c))
@@ -39,7 +39,7 @@ same-length-2 c = search needs
 
 returns-2 : tie.Need-returns-2
 unfolding cspHead errorBytes
-returns-2 c = rw (← c .before .before .before .before .type-number .ensures, ← c .before .before .before .error-length .ensures, c .if2 .taken, c .before .number .ensures)
+returns-2 c = rw (← c .before .before .before .before .type-number .ensures, ← c .before .before .before .error-length .ensures, c .if2 .taken, c .before .error-number .ensures)
 
 slice-write-out-4 : tie.Need-slice-write-out-4
 slice-write-out-4 c = simp length-set (omega (arith, c))
@@ -52,7 +52,7 @@ unfolding cspHead errorBytes
 returns-3 c =
     let n = c .before .before .before .error-length in
     let two : 2 ≤ n .result = omega arith in
-    rw (← c .before .before .before .before .type-number .ensures, ← n .ensures, c .before .number .ensures, take-all (n .result) _ two)
+    rw (← c .before .before .before .before .type-number .ensures, ← n .ensures, c .before .error-number .ensures, take-all (n .result) _ two)
 
 pub put-head-spec : {M : Type 1} → statement M
 put-head-spec =
@@ -64,7 +64,7 @@ put-head-spec =
     error-length-requires
     same-length
     returns
-    number-requires
+    error-number-requires
     slice-write-out-3
     same-length-2
     returns-2

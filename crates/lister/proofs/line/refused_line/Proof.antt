@@ -4,15 +4,15 @@ use Rattle.listing.specs.Lines.{line}
 use Rattle.lister.proofs.line.refused_line.Statement.{statement}
 use Rattle.lister.proofs.line.refused_line.Tie as tie
 
-number-requires : tie.Need-number-requires
-number-requires c κs = search needs
+refusal-number-requires : tie.Need-refusal-number-requires
+refusal-number-requires c κs = search needs
 
 cast-t7 : tie.Need-cast-t7
 cast-t7 c = search needs
 
 returns : tie.Need-returns
 unfolding line
-returns c = rw (c .number .ensures)
+returns c = rw (c .refusal-number .ensures)
 
 pub refused-line-spec : {M : Type 1} → statement M
-refused-line-spec = tie.close (tie.spec number-requires cast-t7 returns)
+refused-line-spec = tie.close (tie.spec refusal-number-requires cast-t7 returns)

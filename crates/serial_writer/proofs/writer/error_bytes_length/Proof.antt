@@ -16,14 +16,14 @@ returns : tie.Need-returns
 unfolding doubled
 returns c = rw (error-none (c .before .before .args .message) _ (c .before .error-length .ensures) (c .if1 .taken)) (refl, omega arith)
 
-number-requires : tie.Need-number-requires
-number-requires c κs = search needs
+error-number-requires : tie.Need-error-number-requires
+error-number-requires c κs = search needs
 
 byte-length-requires : tie.Need-byte-length-requires
 byte-length-requires c κs = search needs
 
 returns-2 : tie.Need-returns-2
-returns-2 c = rw (error-one (c .before .before .before .before .before .args .message) _ (c .before .before .before .before .error-length .ensures) _ (c .before .before .number .ensures) (c .if2 .taken)) (c .before .byte-length .ensures .0, omega arith)
+returns-2 c = rw (error-one (c .before .before .before .before .before .args .message) _ (c .before .before .before .before .error-length .ensures) _ (c .before .before .error-number .ensures) (c .if2 .taken)) (c .before .byte-length .ensures .0, omega arith)
 
 byte-length-requires-2 : tie.Need-byte-length-requires-2
 byte-length-requires-2 c κs = search needs
@@ -34,7 +34,7 @@ add-result c = omega arith
 returns-3 : tie.Need-returns-3
 returns-3 c =
     let m = c .before .before .before .before .before .before .args .message in
-    let e = c .before .before .before .number in
+    let e = c .before .before .before .error-number in
     rw (error-all m _ (c .before .before .before .before .before .error-length .ensures) _ (e .ensures) (c .before .before .before .before .if1 .left) (c .before .if2 .left))
     (rw (length-first (e .result) (m .index ∷ [])) (omega arith), omega arith)
 
@@ -44,7 +44,7 @@ error-bytes-length-spec =
     (tie.spec
     error-length-requires
     returns
-    number-requires
+    error-number-requires
     byte-length-requires
     returns-2
     byte-length-requires-2

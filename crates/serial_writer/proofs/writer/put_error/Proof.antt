@@ -14,15 +14,15 @@ use Rattle.serial_writer.proofs.Writing.{error-none, error-one, error-a
 use Rattle.serial_writer.proofs.writer.put_error.Statement.{statement}
 use Rattle.serial_writer.proofs.writer.put_error.Tie as tie
 
-one : (c : tie.Then2) → errorBytes (c .before .before .before .before .before .args .message) ≡ c .before .number .result ∷ []
-one c = error-one (c .before .before .before .before .before .args .message) _ (c .before .before .before .error-length .ensures) _ (c .before .number .ensures) (c .if2 .taken)
+one : (c : tie.Then2) → errorBytes (c .before .before .before .before .before .args .message) ≡ c .before .error-number .result ∷ []
+one c = error-one (c .before .before .before .before .before .args .message) _ (c .before .before .before .error-length .ensures) _ (c .before .error-number .ensures) (c .if2 .taken)
 
-all : (c : tie.Else2) → errorBytes (c .before .before .before .before .before .args .message) ≡ c .before .number .result ∷ c .before .before .before .before .before .args .message .index ∷ []
-all c = error-all (c .before .before .before .before .before .args .message) _ (c .before .before .before .error-length .ensures) _ (c .before .number .ensures) (c .before .before .if1 .left) (c .if2 .left)
+all : (c : tie.Else2) → errorBytes (c .before .before .before .before .before .args .message) ≡ c .before .error-number .result ∷ c .before .before .before .before .before .args .message .index ∷ []
+all c = error-all (c .before .before .before .before .before .args .message) _ (c .before .before .before .error-length .ensures) _ (c .before .error-number .ensures) (c .before .before .if1 .left) (c .if2 .left)
 
 -- Room for both, each as it is doubled.
-room : (c : tie.Else2) → c .before .before .before .before .before .args .at + length (doubled (c .before .number .result ∷ [])) + length (doubled (c .before .before .before .before .before .args .message .index ∷ [])) ≤ length (now (c .before .before .before .before .before .args .out))
-room c = omega (arith, rw (all c) at (c .before .before .before .before .before .pre), length-first (c .before .number .result) (c .before .before .before .before .before .args .message .index ∷ []))
+room : (c : tie.Else2) → c .before .before .before .before .before .args .at + length (doubled (c .before .error-number .result ∷ [])) + length (doubled (c .before .before .before .before .before .args .message .index ∷ [])) ≤ length (now (c .before .before .before .before .before .args .out))
+room c = omega (arith, rw (all c) at (c .before .before .before .before .before .pre), length-first (c .before .error-number .result) (c .before .before .before .before .before .args .message .index ∷ []))
 
 error-length-requires : tie.Need-error-length-requires
 error-length-requires c κs = search needs
@@ -31,8 +31,8 @@ returns : tie.Need-returns
 unfolding doubled
 returns c = rw (error-none (c .before .before .before .args .message) _ (c .before .error-length .ensures) (c .if1 .taken)) (omega arith, refl)
 
-number-requires : tie.Need-number-requires
-number-requires c κs = search needs
+error-number-requires : tie.Need-error-number-requires
+error-number-requires c κs = search needs
 
 put-requires : tie.Need-put-requires
 put-requires c κs = rw (one (c .before)) at (c .before .before .before .before .before .before .pre)
@@ -55,7 +55,7 @@ same-length-2 c = search needs
 returns-3 : tie.Need-returns-3
 returns-3 c =
     rw (all (c .before .before .before .before .before .before .before .before))
-    (put-more (c .before .before .before .before .before .before .before .before .before .number .result ∷ []) (c .before .before .before .before .before .before .before .before .before .before .before .before .before .args .message .index ∷ []) _ _ _ _ _ _ (c .before .before .before .before .before .before .put2 .ensures) (c .before .before .put3 .ensures))
+    (put-more (c .before .before .before .before .before .before .before .before .before .error-number .result ∷ []) (c .before .before .before .before .before .before .before .before .before .before .before .before .before .args .message .index ∷ []) _ _ _ _ _ _ (c .before .before .before .before .before .before .put2 .ensures) (c .before .before .put3 .ensures))
 
 pub put-error-spec : {M : Type 1} → statement M
 put-error-spec =
@@ -63,7 +63,7 @@ put-error-spec =
     (tie.spec
     error-length-requires
     returns
-    number-requires
+    error-number-requires
     put-requires
     same-length
     returns-2

@@ -1,11 +1,11 @@
 -- Carried by how many bytes tell the error: none, one, or both.
 use borrow.Author.Needs.{needs}
 use Rattle.message.specs.Kinds.{carried}
 use borrow.Author.Tests.{le-leb}
 use native.Mathlib.Omega.{arith}
 use Prim.Native.Nat.{_≤_}
-use Rattle.message.proofs.Message.carried.Statement.{statement}
-use Rattle.message.proofs.Message.carried.Tie as tie
+use Rattle.fields.proofs.carried.Statement.{statement}
+use Rattle.fields.proofs.carried.Tie as tie
 
 error-length-requires : tie.Need-error-length-requires
 error-length-requires c κs = search needs
