@@ -53,7 +53,7 @@ fn walk(bytes: &[u8], out: &mut [u8]) -> usize
                 at += 1;
                 continue;
             }
-            if let StartRow::Known(_) = serial::start_row(SerialLink::Uart, bytes[at + 1]) {
+            if let StartRow::Known(_) = serial_head::start_row(SerialLink::Uart, bytes[at + 1]) {
                 break at;
             }
             at += 2;

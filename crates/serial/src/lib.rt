@@ -1,13 +1,8 @@
-// The two serial links, UART and RS485: frames with doubled ESC. Here stand the rules, the types, and what both directions use;
-// `serial_reader` and `serial_writer` stand on it.
+// The two serial links, UART and RS485: frames with doubled ESC. Here stand the rules and the types. The code that both
+// directions use is `serial_head`, and `serial_reader` and `serial_writer` stand on both.
 //
 // The rules are definitions of `specs/Frames.antt`: start bytes, fields in front of the data, reading and writing. Doubling is
 // `stuffing`'s.
-mod start;
-
-pub use start::head_length;
-pub use start::source_legal;
-pub use start::start_row;
 
 pub enum SerialLink {
     Uart,

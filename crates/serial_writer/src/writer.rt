@@ -21,8 +21,8 @@ use message::Refusal;
 use message::Verdict;
 use message::WriteAnswer;
 use serial::SerialLink;
-use serial::head_length;
-use serial::source_legal;
+use serial_head::head_length;
+use serial_head::source_legal;
 
 // Writes a message with its payload as a frame to the start of out.
 pub fn write(link: SerialLink, message: Message, payload: &[u8], out: &mut [u8]) -> WriteAnswer

@@ -4,14 +4,11 @@ use Rattle.message.specs.Kinds.{typeKind}
 use Rattle.kinds.proofs.type_kind.Statement.{statement}
 use Rattle.kinds.proofs.type_kind.Tie as tie
 
-none : tie.Need-returns-7
-unfolding typeKind
-none c = let h = c .match .rest in rw (ne-eqb _ _ (h .0 .0 .0 .0 .0 .1), ne-eqb _ _ (h .0 .0 .0 .0 .1), ne-eqb _ _ (h .0 .0 .0 .1), ne-eqb _ _ (h .0 .0 .1), ne-eqb _ _ (h .0 .1), ne-eqb _ _ (h .1))
-
 pub type-kind-spec : {M : Type 1} → statement M
 unfolding typeKind
 type-kind-spec =
     tie.close
     (tie.spec
     (λ c. rw (c .match .keys1)) (λ c. rw (c .match .keys2)) (λ c. rw (c .match .keys3)) (λ c. rw (c .match .keys4)) (λ c. rw (c .match .keys5))
-    (λ c. rw (c .match .keys6)) none)
+    (λ c. rw (c .match .keys6))
+    (λ c. let h = c .match .rest in rw (ne-eqb _ _ (h .0 .0 .0 .0 .0 .1), ne-eqb _ _ (h .0 .0 .0 .0 .1), ne-eqb _ _ (h .0 .0 .0 .1), ne-eqb _ _ (h .0 .0 .1), ne-eqb _ _ (h .0 .1), ne-eqb _ _ (h .1))))

@@ -1,0 +1,59 @@
+// What document 01 settles for each serial link and both directions: the start bytes, what stands in front of the data, and the source.
+// The rules are `serial`'s.
+ghost use mathlib.Core.Path.{_≡_};
+ghost use Rattle.serial.specs.Frames.{startRow, headLength, sourceLegal};
+use serial::Row;
+use serial::SerialLink;
+use serial::StartRow;
+use stuffing::Rs485;
+use stuffing::Uart;
+
+// The row of a start byte of a link.
+pub fn start_row(link: SerialLink, start: u8) -> StartRow
+    ensures { λ r. ⌜ r ≡ startRow link start ⌝ }
+{
+    match link {
+        SerialLink::Uart => match start {
+            Uart::REQUEST => StartRow::Known(Row::Request),
+            Uart::REPLY => StartRow::Known(Row::Reply),
+            Uart::NACK => StartRow::Known(Row::Nack),
+            Uart::EVENT => StartRow::Known(Row::Event),
+            _ => StartRow::Unknown,
+        },
+        SerialLink::Rs485 => match start {
+            Rs485::REQUEST => StartRow::Known(Row::Request),
+            Rs485::REPLY => StartRow::Known(Row::Reply),
+            Rs485::NACK => StartRow::Known(Row::Nack),
+            _ => StartRow::Unknown,
+        },
+    }
+}
+
+// How many bytes stand between the start byte and the data.
+pub fn head_length(link: SerialLink, row: Row) -> usize
+    ensures { λ r. ⌜ r ≡ headLength link row ⌝ }
+{
+    match link {
+        SerialLink::Uart => match row {
+            Row::Request => 1,
+            Row::Reply => 1,
+            Row::Nack => 1,
+            Row::Event => 0,
+        },
+        SerialLink::Rs485 => match row {
+            Row::Request => 3,
+            Row::Reply => 3,
+            Row::Nack => 3,
+            Row::Event => 0,
+        },
+    }
+}
+
+pub fn source_legal(link: SerialLink, source: u8) -> bool
+    ensures { λ r. ⌜ r ≡ sourceLegal link source ⌝ }
+{
+    match link {
+        SerialLink::Uart => true,
+        SerialLink::Rs485 => 0 < source,
+    }
+}
