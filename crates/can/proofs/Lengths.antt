@@ -23,13 +23,17 @@ module _ (i : List ℕ) (four : length i ≡ 4) where
   unfolding frame
   frame-length d h = simp (length-append, length-replicate) (omega arith)
 
+  -- The data of a frame of a series: at most 7 bytes, and the count.
+  counted-length : (d : List ℕ) (count : ℕ) → length d ≤ 7 → length (frame i (d ++ (count ∷ []))) ≡ 13
+  counted-length d count h = frame-length (d ++ (count ∷ [])) (rw length-append (omega arith))
+
   pub series-length : (n : ℕ) (p : List ℕ) → n * 7 ≤ length p → length p < n * 7 + 7 → length (series i n p) ≡ 13 * (n + 1)
   unfolding series
-  series-length zero p l h = frame-length (p ++ (0 ∷ [])) (rw length-append (omega arith))
+  series-length zero p l h = counted-length p _ (omega arith)
   series-length (suc n) p l h =
-      let first = frame-length (take 7 p ++ (suc n ∷ [])) (rw (length-append, length-take-le 7 p (omega arith)) (omega arith)) in
+      let seven : length (take 7 p) ≤ 7 = rw (length-take-le 7 p (omega arith)) (omega arith) in
       let behind = series-length n (drop 7 p) (rw length-drop (omega arith)) (rw length-drop (omega arith)) in
-      rw (length-append, first, behind) (omega arith)
+      rw (length-append, counted-length, behind) (omega arith)
 
 -- As many frames behind the first as there are whole sevens in the payload's length.
 pub message-length : (t : ℕ) (m : Message) (p : List ℕ) → length (series (identifier t m) (framesBehind (length p)) p) ≡ 13 * (length p / 7 + 1)

@@ -98,8 +98,9 @@ pub bytes-read : (m : Message) (p : List ℕ) → idLegal (m .kind) (m .id) ≡ 
 unfolding canRead canBytes framesBehind identifier canCarried frame
 bytes-read m p legal fits = by (inSeries (m .kind) (length p)) refl
   where
+    -- the ID as it is written
     id : ℕ
-    id = cond (isEvent (m .kind)) 255 (m .id)
+    id = getD (identifier 0 m) 2 0
 
     by : (b : Bool) → inSeries (m .kind) (length p) ≡ b → canRead (canBytes m p) ≡ given (canCarried m) p
     by true q =

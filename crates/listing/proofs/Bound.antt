@@ -5,7 +5,7 @@ use mathlib.Core.Bool.{Bool, true, false, cond}
 use mathlib.Core.List.{List, [], _∷_}
 use mathlib.Core.Path.{_≡_, refl}
 use native.Mathlib.Omega.{arith}
-use borrow.Author.Tests.{leb-true}
+use borrow.Author.Tests.{leb-true, leb-false}
 use lib.Dec.{leb, eqb}
 use lib.ListN.{length, take, drop, length-append, length-drop}
 use Rattle.message.proofs.Tables.{error-length-two}
@@ -25,6 +25,7 @@ use Rattle.serial.specs.declared.SerialLink.the-variants.{Uart}
 use Rattle.listing.specs.Lines.{kindText, fieldText, idOf, codeOf, line, spaced, lineText}
 use Rattle.listing.specs.Listing.{Found, nothing, frame, hunt, frameLength, said, frameLine, framed, lines, listing, longest}
 use Rattle.listing.specs.declared.Field.the-variants.{Number, Dash}
+use Rattle.listing.proofs.Limit.{listed-within, listed-past}
 use Rattle.listing.proofs.Puts.{line-size}
 use Rattle.listing.proofs.Reading.{read-most, read-low}
 use Rattle.listing.proofs.Walks.{Within, hunt-within}
@@ -130,18 +131,16 @@ lines-short (suc n) at s h = by (lines-short n) (hunt at s) (hunt-within at s)
 
 -- The header, and ten bytes of text for each byte.
 pub listing-short : (s : List ℕ) → length (listing s) ≤ 20 + 10 * length s
-unfolding listing
 listing-short s = by (leb (length s) 65536) refl
   where
     by : (t : Bool) → leb (length s) 65536 ≡ t → length (listing s) ≤ 20 + 10 * length s
-    by true q = rw (q, length-append) (omega (arith, lines-short (length s) 0 s (omega (arith, leb-true (length s) 65536 q))))
-    by false q = rw q (omega arith)
+    by true q = let h = leb-true (length s) 65536 q in rw (listed-within s h, length-append) (omega (arith, lines-short (length s) 0 s (omega arith)))
+    by false q = let h = leb-false (length s) 65536 q in rw (listed-past s h) (omega arith)
 
 -- No listing is longer than the longest.
 pub listing-longest : (s : List ℕ) → length (listing s) ≤ longest
-unfolding listing
 listing-longest s = by (leb (length s) 65536) refl
   where
     by : (t : Bool) → leb (length s) 65536 ≡ t → length (listing s) ≤ longest
     by true q = omega (arith, leb-true (length s) 65536 q, listing-short s)
-    by false q = rw q (omega arith)
+    by false q = rw (listed-past s (leb-false (length s) 65536 q)) (omega arith)

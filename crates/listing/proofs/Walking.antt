@@ -3,7 +3,6 @@ use Prim.Native.Nat.{ℕ, _+_, _≤_, _<_}
 use mathlib.Core.List.{List, _++_}
 use mathlib.Core.Path.{_≡_, ap, sym, _∙_}
 use native.Mathlib.Omega.{arith}
-use borrow.Author.Tests.{le-leb}
 use lib.ListN.{length, getD, drop, length-append, length-drop}
 use lib.Seq.{sets, drop-drop}
 use Rattle.message.proofs.Stores.{sets-append}
@@ -15,6 +14,7 @@ use Rattle.serial.specs.declared.SerialLink.the-variants.{Uart}
 use Rattle.serial.specs.declared.StartRow.the-variants.{Known, Unknown}
 use Rattle.listing.specs.Listing.{frameLength, frameLine, lines, header, listing, longest}
 use Rattle.listing.proofs.Bound.{frame-inside, lines-short}
+use Rattle.listing.proofs.Limit.{listed-within}
 use Rattle.listing.proofs.Puts.{Put, put-more}
 use Rattle.listing.proofs.Walks.{pass-byte, pass-pair, pass-end, pass-frame}
 
@@ -78,8 +78,7 @@ scanned b at stop end s p =
 -- The walk ends where no two bytes are left.
 pub walked-end : (b orig out₀ : List ℕ) (to₀ : ℕ) (out : List ℕ) (to from at : ℕ) → length b ≤ 65536 → Put orig 0 header to₀ out₀ → Walked b out₀ to₀ 0 out to from → Hunted b from at → length b < at + 2
     → (to ≡ length (listing b)) × (out ≡ sets orig 0 (listing b))
-unfolding listing
 walked-end b orig out₀ to₀ out to from at size head w h end =
     let none = h .2 ∙ pass-end b at (length b) end in
     let all = put-more header (rest b 0) orig out₀ out 0 to₀ to head (omega (arith, w .2, ap length none), sym (w .3 ∙ rw none)) in
-    rw (le-leb (length b) 65536 size) (omega (arith, all .0), all .1)
+    rw (listed-within b size) (omega (arith, all .0), all .1)

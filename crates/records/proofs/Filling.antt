@@ -2,31 +2,28 @@
 use Prim.Native.Nat.{ℕ, zero, suc, _+_, _*_, _/_, _%_, _≤_, _<_}
 use mathlib.Core.Bool.{Bool, true, false, cond}
 use mathlib.Core.List.{List, [], _∷_, _++_, append-assoc}
-use mathlib.Core.Path.{_≡_, refl, sym, ap}
+use mathlib.Core.Path.{_≡_, refl, sym, _∙_, ap}
 use native.Mathlib.Nat.{add-zero}
 use native.Mathlib.Numerals.{add-one}
 use native.Mathlib.Omega.{arith}
-use borrow.Author.Tests.{le-leb, lt-leb, leb-true, ltb-true}
+use borrow.Author.Tests.{leb-true, ltb-true}
 use lib.Dec.{leb, ltb}
-use lib.ListN.{length, getD, set, take, drop, List·getD-append, length-append, length-drop, take-append-drop}
+use lib.ListN.{length, getD, set, take, drop, replicate, List·getD-append, length-map, length-append, length-drop, take-append-drop}
 use lib.Seq.{take-append-le, drop-append-le, drop-cons, drop-drop, getD-drop, set-at, append-snoc, length-take-le}
+use mir.Val.{Val}
+use denote.Laws.{Is}
 use Rattle.little_endian.specs.LittleEndian.{fromBytes}
-use Rattle.message.specs.Answer.{Answer, refused, given, number, within, counted, laid, writeTold}
+use Rattle.message.specs.Answer.{Answer, refused, given, counted, laid, writeTold}
 use Rattle.message.specs.declared.Message.{Message}
-use Rattle.message.specs.declared.Refusal.{Refusal}
-use Rattle.message.specs.declared.WriteAnswer.{WriteAnswer}
-use Rattle.message.specs.declared.WriteAnswer.the-variants.{Refused, Length}
 use Rattle.message.specs.Checks.{writeChecks}
 use Rattle.message.specs.Kinds.{typeNumber}
-use Rattle.message.proofs.Answers.{long-enough, after-given}
+use Rattle.message.proofs.Answers.{after-given}
 use Rattle.can.specs.Can.{seriesType, identifier, inSeries, canBytes, canCarries, canWrite}
 use Rattle.can.proofs.Lengths.{identifier-length, frame-length, message-length, single-most}
-use Rattle.link.specs.Link.{linkWrite}
-use Rattle.link.specs.declared.Link.the-variants.{Can}
-use Rattle.link.proofs.Laws.{bytes-most}
+use Rattle.record_plan.specs.Plan.{Planned, inFrames, toFill}
+use Rattle.record_plan.specs.declared.Plan.{Plan}
+use Rattle.record_plan.proofs.Plan.{the-row}
 use Rattle.records.specs.declared.CanFrame.{CanFrame}
-use Rattle.records.specs.declared.Plan.{Plan}
-use Rattle.records.specs.Plan.{Decided, RecordAt, toFill}
 use Rattle.records.specs.Records.{recordOf, recordsOf, inRecords, recordsWrite, fitting, used, filled, lentOf}
 
 -- A record looks at 13 bytes, whatever follows them.
@@ -34,37 +31,42 @@ record-local : (b rest : List ℕ) → 13 ≤ length b → recordOf (b ++ rest) 
 unfolding recordOf
 record-local b rest h = rw (take-append-le 4 b rest (omega arith), List·getD-append b rest 0 4 (omega arith), drop-append-le 5 b rest (omega arith), take-append-le 8 (drop 5 b) rest (rw length-drop (omega arith)))
 
-pub records-local : (n : ℕ) (b rest : List ℕ) → n * 13 ≤ length b → recordsOf n (b ++ rest) ≡ recordsOf n b
+records-local : (n : ℕ) (b rest : List ℕ) → n * 13 ≤ length b → recordsOf n (b ++ rest) ≡ recordsOf n b
 unfolding recordsOf
 records-local zero b rest h = refl
 records-local (suc n) b rest h =
     rw (record-local b rest (omega arith), drop-append-le 13 b rest (omega arith), records-local n (drop 13 b) rest (rw length-drop (omega arith)))
 
-pub records-length : (n : ℕ) (b : List ℕ) → length (recordsOf n b) ≡ n
+records-length : (n : ℕ) (b : List ℕ) → length (recordsOf n b) ≡ n
 unfolding recordsOf
 records-length zero b = refl
 records-length (suc n) b = ap suc (records-length n (drop 13 b))
+
+-- The array of a plan that is at hand has all its bytes.
+pub bytes-length : (p : Plan) {vs : List Val} → Is the-row p vs → length (p .bytes) ≡ 481
+bytes-length p g = sym (length-map (p .bytes) (λ (n : ℕ). n)) ∙ g .1 .1 .0 .1 .0 .1
 
 -- The bytes from a place on, one by one.
 abbrev bytesFrom : List ℕ → ℕ → ℕ → ℕ → List ℕ
 bytesFrom b at zero k = []
 bytesFrom b at (suc n) k = getD b (at + k) 0 ∷ bytesFrom b at n (suc k)
 
-bytes-from : (b : List ℕ) (at n k : ℕ) → at + k + n ≤ length b → take n (drop k (drop at b)) ≡ bytesFrom b at n k
+bytes-from : (b : List ℕ) (at n k : ℕ) → at + k + n ≤ length b → take n (drop (at + k) b) ≡ bytesFrom b at n k
 bytes-from b at zero k h = refl
 bytes-from b at (suc n) k h =
     let place : suc (at + k) ≡ at + suc k = omega arith in
-    rw (drop-drop, drop-cons b (at + k) 0 (omega arith), place, ← drop-drop, bytes-from b at n (suc k) (omega arith))
+    rw (drop-cons b (at + k) 0 (omega arith), place, bytes-from b at n (suc k) (omega arith))
 
--- A record with those bytes is the one of the definition.
-pub record-is : (b : List ℕ) (at : ℕ) (r : CanFrame) → at + 13 ≤ length b → RecordAt b at r → r ≡ recordOf (drop at b)
+-- A record that is put together byte by byte is the one of the definition.
+pub record-is : (b : List ℕ) (at : ℕ) (r : CanFrame) → at + 13 ≤ length b
+    → r .identifier ≡ fromBytes (getD b at 0 ∷ getD b (at + 1) 0 ∷ getD b (at + 2) 0 ∷ getD b (at + 3) 0 ∷ [])
+    → r .dlc ≡ getD b (at + 4) 0 → r .«data» ≡ take 8 (drop (at + 5) b) → r ≡ recordOf (drop at b)
 unfolding recordOf
-record-is b at r h e =
-    let four : take 4 (drop 0 (drop at b)) ≡ bytesFrom b at 4 0 = bytes-from b at 4 0 (omega arith) in
-    let eight : take 8 (drop 5 (drop at b)) ≡ bytesFrom b at 8 5 = bytes-from b at 8 5 (omega arith) in
-    let first : r .identifier ≡ fromBytes (take 4 (drop at b)) = rw (four, add-zero) (e .identifier) in
-    let second : r .dlc ≡ getD (drop at b) 4 0 = rw getD-drop (e .dlc) in
-    let third : r .«data» ≡ take 8 (drop 5 (drop at b)) = rw eight (e .«data») in
+record-is b at r h first second third =
+    let four : take 4 (drop (at + 0) b) ≡ bytesFrom b at 4 0 = bytes-from b at 4 0 (omega arith) in
+    let first : r .identifier ≡ fromBytes (take 4 (drop at b)) = rw (rw add-zero at four) first in
+    let second : r .dlc ≡ getD (drop at b) 4 0 = rw getD-drop second in
+    let third : r .«data» ≡ take 8 (drop 5 (drop at b)) = rw drop-drop third in
     λ i. record { identifier = first i; dlc = second i; «data» = third i }
 
 -- One more record at the end.
@@ -84,74 +86,53 @@ module _ (b : List ℕ) (xs : List CanFrame) where
   pub filled-length : (i : ℕ) → i ≤ length xs → length (filledTo i) ≡ length xs
   filled-length i h = simp (length-append, records-length, length-drop) (omega arith)
 
-  pub filled-turn : (i : ℕ) (r : CanFrame) → i < length xs → 13 * i + 13 ≤ length b → RecordAt b (13 * i) r → set (filledTo i) i r ≡ filledTo (i + 1)
-  filled-turn i r h k e =
-      rw (record-is b (13 * i) r k e, records-more i b, append-snoc, drop-cons xs i (recordOf b) h, add-one) (set-at (recordsOf i b) (getD xs i (recordOf b)) (drop (suc i) xs) (recordOf (drop (13 * i) b)) i (records-length i b))
+  pub filled-turn : (i : ℕ) (r : CanFrame) → i < length xs → r ≡ recordOf (drop (13 * i) b) → set (filledTo i) i r ≡ filledTo (i + 1)
+  filled-turn i r h e =
+      rw (e, records-more i b, append-snoc, drop-cons xs i (recordOf b) h, add-one) (set-at (recordsOf i b) (getD xs i (recordOf b)) (drop (suc i) xs) (recordOf (drop (13 * i) b)) i (records-length i b))
 
-filled-by : (a : Answer Unit (List CanFrame)) (xs : List CanFrame) → toFill a ++ drop (length (toFill a)) xs ≡ filled a xs
-unfolding toFill filled
+-- What a call has decided, in records: what is answered, and what is filled, which is within the lent list and within the longest series.
+abbrev recordsToFill : Answer Unit (List CanFrame) → List CanFrame
+recordsToFill (refused n) = []
+recordsToFill (given a r) = r
+
+pub record Decided (a : Answer Unit (List CanFrame)) (room : ℕ) (p : Plan) : Type 0 where
+  pub told : writeTold (p .answer) ≡ used a
+  pub records : recordsOf (p .count) (p .bytes) ≡ recordsToFill a
+  pub within : p .count ≤ room
+  pub most : p .count ≤ 37
+
+-- So says the plan, which speaks of the 13-byte form.
+in-decided : (form : Answer Unit (List ℕ)) (room : ℕ) (p : Plan) → Planned form room p → Decided (fitting room (inRecords form)) room p
+unfolding inRecords fitting used inFrames toFill counted laid recordsOf
+in-decided (refused n) room p e = record { told = e .told; records = rw (e .count) refl; within = rw (e .count) (omega arith); most = e .most }
+in-decided (given t b) room p e = by (leb (length b / 13) room) refl
+  where
+    by : (y : Bool) → leb (length b / 13) room ≡ y → Decided (fitting room (given t (recordsOf (length b / 13) b))) room p
+    by true q =
+        let count : p .count ≡ length b / 13 = rw q at (e .count) in
+        rw (records-length (length b / 13) b, q) (record {
+          told = rw (records-length (length b / 13) b) (rw q at (e .told));
+          records = rw (count, e .bytes) (records-local (length b / 13) b (drop (length b) (replicate 481 0)) (omega arith));
+          within = rw count (leb-true _ _ q);
+          most = e .most;
+        })
+    by false q =
+        let count : p .count ≡ 0 = rw q at (e .count) in
+        rw (records-length (length b / 13) b, q) (record { told = rw q at (e .told); records = rw count refl; within = rw count (omega arith); most = e .most })
+
+pub decided : (m : Message) (p : List ℕ) (room : ℕ) (plan : Plan) → Planned (canWrite m p) room plan → Decided (fitting room (recordsWrite m p)) room plan
+unfolding recordsWrite
+decided m p room plan e = in-decided (canWrite m p) room plan e
+
+filled-by : (a : Answer Unit (List CanFrame)) (xs : List CanFrame) → recordsToFill a ++ drop (length (recordsToFill a)) xs ≡ filled a xs
+unfolding filled
 filled-by (refused n) xs = refl
 filled-by (given t r) xs = refl
 
-pub filled-end : (b : List ℕ) (xs : List CanFrame) (a : Answer Unit (List CanFrame)) (n : ℕ) → recordsOf n b ≡ toFill a → filledTo b xs n ≡ filled a xs
+pub filled-end : (b : List ℕ) (xs : List CanFrame) (a : Answer Unit (List CanFrame)) (n : ℕ) → recordsOf n b ≡ recordsToFill a → filledTo b xs n ≡ filled a xs
 filled-end b xs a n e =
-    let size : n ≡ length (toFill a) = cc (records-length n b, ap length e) in
+    let size : n ≡ length (recordsToFill a) = cc (records-length n b, ap length e) in
     rw (e, size) (filled-by a xs)
-
--- What the answer of the 13-byte form says of the records: the same refusal, or the records of what was laid over an array.
-in-records-refused : (x : Answer Unit (List ℕ)) (n : ℕ) → refused n ≡ counted x → inRecords x ≡ refused n
-unfolding counted inRecords
-in-records-refused (refused k) n e = cc
-in-records-refused (given t b) n e = absurd (let z : _≡_ {A = ℕ} 0 1 = cc in omega arith)
-
-in-records-given : (x : Answer Unit (List ℕ)) (n : ℕ) (out left : List ℕ) → given tt n ≡ counted x → left ≡ laid x out → inRecords x ≡ given tt (recordsOf (n / 13) left)
-unfolding counted inRecords laid
-in-records-given (refused k) n out left e f = absurd (let z : _≡_ {A = ℕ} 0 1 = cc in omega arith)
-in-records-given (given t b) n out left e f =
-    let size : n ≡ length b = cc in
-    rw (f, size, records-local (length b / 13) b (drop (length b) out) (omega arith))
-
--- The longest series has 481 bytes, so there they always fit.
-form-fits : (m : Message) (p out : List ℕ) → 481 ≤ length out → within out (canWrite m p) ≡ canWrite m p
-unfolding within linkWrite
-form-fits m p out h = by (canWrite m p) refl
-  where
-    by : (x : Answer Unit (List ℕ)) → canWrite m p ≡ x → within out x ≡ x
-    by (refused n) e = refl
-    by (given t b) e = long-enough out tt b (omega (arith, bytes-most Can m p b e))
-
-form-most : (m : Message) (p : List ℕ) (n : ℕ) → given tt n ≡ counted (canWrite m p) → n ≤ 481
-unfolding counted linkWrite
-form-most m p n e = by (canWrite m p) refl e
-  where
-    by : (x : Answer Unit (List ℕ)) → canWrite m p ≡ x → given tt n ≡ counted x → n ≤ 481
-    by (refused k) q f = absurd (let z : _≡_ {A = ℕ} 0 1 = cc in omega arith)
-    by (given t b) q f = let size : n ≡ length b = cc in omega (arith, bytes-most Can m p b q)
-
-module _ (m : Message) (p out left : List ℕ) (w : WriteAnswer) (told : writeTold w ≡ counted (within out (canWrite m p))) (over : left ≡ laid (within out (canWrite m p)) out) (h : 481 ≤ length out) where
-  pub form-refused : (r : Refusal) → w ≡ Refused r → recordsWrite m p ≡ refused (number r)
-  unfolding recordsWrite writeTold
-  form-refused r e = in-records-refused (canWrite m p) (number r) (cc (form-fits m p out h))
-
-  pub form-given : (n : ℕ) → w ≡ Length n → (n ≤ 481) × (recordsWrite m p ≡ given tt (recordsOf (n / 13) left))
-  unfolding recordsWrite writeTold
-  form-given n e =
-      let counts : given tt n ≡ counted (canWrite m p) = cc (form-fits m p out h) in
-      (form-most m p n counts, in-records-given (canWrite m p) n out left counts (cc (form-fits m p out h)))
-
-module _ (room n : ℕ) (b : List ℕ) where
-  pub too-few : room < n → fitting room (given tt (recordsOf n b)) ≡ refused 8
-  unfolding fitting
-  too-few h = rw (records-length n b, lt-leb)
-
-  pub enough : n ≤ room → fitting room (given tt (recordsOf n b)) ≡ given tt (recordsOf n b)
-  unfolding fitting
-  enough h = rw (records-length n b, le-leb)
-
--- A plan that refuses: nothing is filled.
-pub decided-refused : (a : Answer Unit (List CanFrame)) (room : ℕ) (p : Plan) (r : Refusal) → a ≡ refused (number r) → (p .count ≡ 0) × (p .answer ≡ Refused r) → Decided a room p
-unfolding writeTold used toFill recordsOf
-decided-refused a room p r e f = rw e (record { told = rw (f .1) refl; records = rw (f .0) refl; within = omega arith; most = omega arith })
 
 -- A list of which the first n are lent, and the others stay behind them.
 pub filled-part : (n : ℕ) (x : Answer Unit (List CanFrame)) (fs : List CanFrame) → n ≤ length fs → filled (fitting n x) (take n fs) ++ drop n fs ≡ filled (fitting n x) fs

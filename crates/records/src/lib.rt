@@ -1,13 +1,12 @@
 // Messages on CAN as a lent list of frame records, for a driver that takes structs. The rules are `specs/Records.antt`.
-ghost use Prim.Native.Nat.{_*_, _≤_, _<_};
+ghost use Prim.Native.Nat.{_*_, _<_};
 ghost use mathlib.Core.Path.{_≡_};
-ghost use lib.ListN.{length};
-ghost use Rattle.message.specs.Answer.{given, writeTold};
-ghost use Rattle.records.specs.Plan.{Decided, RecordAt};
-ghost use Rattle.records.specs.Records.{recordsOf, recordsWrite, fitting, used, filled, lentOf};
+ghost use lib.ListN.{length, drop};
+ghost use Rattle.message.specs.Answer.{writeTold};
+ghost use Rattle.records.specs.Records.{recordOf, recordsWrite, fitting, used, filled, lentOf};
 use message::Message;
-use message::Refusal;
 use message::WriteAnswer;
+use record_plan::Plan;
 
 // A CAN frame as a driver takes it.
 #[repr(C)]
@@ -23,19 +22,12 @@ pub struct Kept {
     pub answer: WriteAnswer,
 }
 
-// What a call has to do: the 13-byte form, how many records of it to fill (none on a refusal), and what to answer.
-struct Plan {
-    bytes: [u8; 481],
-    count: usize,
-    answer: WriteAnswer,
-}
-
 // Writes a message with its payload as records to the start of frames. The answer's length is how many there are.
 pub fn write(message: Message, payload: &[u8], frames: &mut [CanFrame]) -> WriteAnswer
     ensures { λ r. ⌜ writeTold r ≡ used (fitting (length (now (frames .entry))) (recordsWrite message (now (payload .entry)))) ⌝ }
     ensures { λ _. ⌜ now (frames .exit) ≡ filled (fitting (length (now (frames .entry))) (recordsWrite message (now (payload .entry)))) (now (frames .entry)) ⌝ }
 {
-    let plan = decide(message, payload, frames.len());
+    let plan = record_plan::decide(message, payload, frames.len());
     let mut i = 0;
     while i < plan.count {
         frames[i] = record_at(plan, i);
@@ -59,63 +51,23 @@ pub fn write_array(message: Message, payload: &[u8], frames: [CanFrame; 64], cou
     }
 }
 
-// The longest series has 37 frames, 481 bytes: what can_writer::write refuses is never for want of room.
-fn decide(message: Message, payload: &[u8], room: usize) -> Plan
-    ensures { λ r. ⌜ Decided (fitting room (recordsWrite message (now (payload .entry)))) room r ⌝ }
-{
-    let mut bytes = [0u8; 481];
-    match can_writer::write(message, payload, &mut bytes) {
-        WriteAnswer::Refused(refusal) => refused(bytes, refusal),
-        WriteAnswer::Length(length) => planned(bytes, length / 13, room),
-    }
-}
-
-// Fills so many records, if the lent list has them.
-fn planned(bytes: [u8; 481], count: usize, room: usize) -> Plan
-    requires { ⌜ count ≤ 37 ⌝ }
-    ensures { λ r. ⌜ Decided (fitting room (given tt (recordsOf count bytes))) room r ⌝ }
-{
-    if room < count {
-        return refused(bytes, Refusal::OutputTooShort);
-    }
-    Plan {
-        bytes,
-        count,
-        answer: WriteAnswer::Length(count),
-    }
-}
-
-// A refusal fills nothing.
-fn refused(bytes: [u8; 481], refusal: Refusal) -> Plan
-    ensures { λ r. ⌜ (r .count ≡ 0) × (r .answer ≡ WriteAnswer.Refused refusal) ⌝ }
-{
-    Plan {
-        bytes,
-        count: 0,
-        answer: WriteAnswer::Refused(refusal),
-    }
-}
-
 // Record i, out of the 13 bytes that its frame has in the form.
 fn record_at(plan: Plan, i: usize) -> CanFrame
     requires { ⌜ i < 37 ⌝ }
-    ensures { λ r. ⌜ RecordAt (plan .bytes) (13 * i) r ⌝ }
+    ensures { λ r. ⌜ r ≡ recordOf (drop (13 * i) (plan .bytes)) ⌝ }
 {
     let b = plan.bytes;
     let at = 13 * i;
+    let mut data = [0u8; 8];
+    let mut k = 0;
+    while k < 8 {
+        data[k] = b[at + 5 + k];
+        k += 1;
+    }
     CanFrame {
         identifier: little_endian::u32_from_bytes(b[at], b[at + 1], b[at + 2], b[at + 3]),
         dlc: b[at + 4],
-        data: [
-            b[at + 5],
-            b[at + 6],
-            b[at + 7],
-            b[at + 8],
-            b[at + 9],
-            b[at + 10],
-            b[at + 11],
-            b[at + 12],
-        ],
+        data,
     }
 }
 

@@ -2,13 +2,13 @@
 use Prim.Native.Nat.{_<_, _≤_}
 use mathlib.Core.Path.{refl, ap}
 use borrow.Author.Needs.{needs}
-use borrow.Author.Tests.{lt-leb}
 use denote.Ref.{now}
 use lib.ListN.{length}
 use Rattle.message.proofs.Answers.{too-short, long-enough}
 use Rattle.message.proofs.Stores.{sets-start}
 use Rattle.message.specs.Answer.{given, counted, laid, writeTold}
 use Rattle.listing.specs.Listing.{listing}
+use Rattle.listing.proofs.Limit.{listed-past}
 use Rattle.lister.proofs.walk.list.Statement.{statement}
 use Rattle.lister.proofs.walk.list.Tie as tie
 
@@ -22,8 +22,7 @@ same-length : tie.Need-same-length
 same-length c = search needs
 
 returns : tie.Need-returns
-unfolding listing
-returns c = rw (lt-leb (length (now (c .before .before .before .before .before .before .before .before .args .bytes))) 65536 (c .before .before .before .before .before .if1 .taken)) (c .before .before .lay .ensures)
+returns c = rw (listed-past _ (c .before .before .before .before .before .if1 .taken)) (c .before .before .lay .ensures)
 
 slice-aggregate-walk : tie.Need-slice-aggregate-walk
 slice-aggregate-walk c = search needs
