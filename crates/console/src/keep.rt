@@ -1,4 +1,4 @@
-// What a script keeps: a unit with its store, a sender and a file. Store and file lie in arrays of the program; here are their lengths.
+// What a script keeps: a unit with its store, a sender and a file. Store and file are the first so many bytes of their arrays.
 use device::Device;
 use device::Phase;
 use link::Link;
@@ -10,11 +10,13 @@ pub struct Kept {
     // A unit has been made.
     pub made: bool,
     pub unit: Device,
-    pub store: usize,
+    pub store: [u8; 4096],
+    pub store_length: usize,
     // A sender has been started.
     pub started: bool,
     pub sender: Sender,
-    pub file: usize,
+    pub file: [u8; 4096],
+    pub file_length: usize,
 }
 
 // At first there is no unit and no sender, and the file is empty.
@@ -44,18 +46,26 @@ pub(crate) fn none() -> Kept {
     Kept {
         made: false,
         unit,
-        store: 0,
+        store: [0; 4096],
+        store_length: 0,
         started: false,
         sender,
-        file: 0,
+        file: [0; 4096],
+        file_length: 0,
     }
 }
 
-pub(crate) fn with_unit(kept: Kept, unit: Device, store: usize) -> Kept {
+pub(crate) fn with_unit(kept: Kept, unit: Device) -> Kept {
     let mut next = kept;
     next.made = true;
     next.unit = unit;
+    next
+}
+
+pub(crate) fn with_store(kept: Kept, store: [u8; 4096], length: usize) -> Kept {
+    let mut next = kept;
     next.store = store;
+    next.store_length = length;
     next
 }
 

@@ -1,5 +1,4 @@
-// Puts the library's calls on text lines: a script has one call to a line, and each line is answered by one. The program `replay` is thin over
-// it.
+// Puts the library's calls on text lines, for the program `replay`: a script has one call to a line, and each line is answered by one.
 mod call;
 mod input;
 mod keep;

@@ -1,4 +1,4 @@
-// The calls that keep nothing, and lines that are no call.
+// The calls that keep nothing.
 use crate::call;
 use crate::call::Call;
 use crate::call::link;
@@ -14,9 +14,7 @@ pub(crate) fn make(call: Call, bytes: &[u8]) {
     match call[0] {
         call::READ => read(call, bytes),
         call::WRITE => write(call, bytes),
-        call::RECORDS => records(call, bytes),
-        call::BAD => print::text(b"bad line\n"),
-        _ => (),
+        _ => records(call, bytes),
     }
 }
 

@@ -95,12 +95,6 @@ pub(crate) fn unit(unit: Device) {
     number(unit.size as usize);
 }
 
-// The same, and the line's end.
-pub(crate) fn unit_line(device: Device) {
-    unit(device);
-    end_line();
-}
-
 fn phase_name(phase: Phase) {
     match phase {
         Phase::Idle => text(b" idle"),

@@ -7,6 +7,7 @@ use crate::keep;
 use crate::keep::Kept;
 use crate::line;
 use crate::plain;
+use crate::print;
 use crate::rounds;
 use crate::sending;
 use crate::unit;
@@ -14,12 +15,10 @@ use crate::unit;
 // Makes the calls of a script, one to a line, and writes one line for each to standard output.
 pub fn run(script: i32) {
     let mut buffer = [0u8; 20480];
-    let mut store = [0u8; 4096];
-    let mut file = [0u8; 4096];
-    run_lines(script, &mut buffer, &mut store, &mut file);
+    run_lines(script, &mut buffer);
 }
 
-fn run_lines(script: i32, buffer: &mut [u8], store: &mut [u8], file: &mut [u8]) {
+fn run_lines(script: i32, buffer: &mut [u8]) {
     let mut kept = keep::none();
     let mut next = Line {
         length: 0,
@@ -32,43 +31,37 @@ fn run_lines(script: i32, buffer: &mut [u8], store: &mut [u8], file: &mut [u8]) 
     while turns < 0x7FFF_FFFF_FFFF_FFFF {
         turns += 1;
         next = input::next_line(script, buffer, next);
-        kept = run_line(
-            input::front(buffer, next.length),
-            next.beyond,
-            kept,
-            store,
-            file,
-        );
+        kept = run_line(input::front(buffer, next.length), next.beyond, kept);
         if next.last {
             return;
         }
     }
 }
 
-fn run_line(line: &[u8], beyond: bool, kept: Kept, store: &mut [u8], file: &mut [u8]) -> Kept {
+fn run_line(line: &[u8], beyond: bool, kept: Kept) -> Kept {
     let mut bytes = [0u8; 8192];
     let call = line::read(line, beyond, &mut bytes);
-    make(call, &bytes, kept, store, file)
+    make(call, &bytes, kept)
 }
 
-fn make(call: Call, bytes: &[u8], kept: Kept, store: &mut [u8], file: &mut [u8]) -> Kept {
-    match call[0] {
-        call::UNIT | call::RECEIVE | call::WORK | call::STORE => unit::make(
-            call,
-            bytes,
-            kept,
-            store,
-        ),
-        call::FILE | call::SENDER | call::REQUEST | call::ANSWER => sending::make(
-            call,
-            bytes,
-            kept,
-            file,
-        ),
-        call::ROUND => rounds::round(call, kept, store, file),
-        _ => {
-            plain::make(call, bytes);
-            kept
-        }
+// By the order of the names: calls that keep nothing, those of a unit, those of a sender, a round, and lines that are no call.
+fn make(call: Call, bytes: &[u8], kept: Kept) -> Kept {
+    let name = call[0];
+    if name < call::UNIT {
+        plain::make(call, bytes);
+        return kept;
     }
+    if name < call::FILE {
+        return unit::make(call, bytes, kept);
+    }
+    if name < call::ROUND {
+        return sending::make(call, bytes, kept);
+    }
+    if name == call::ROUND {
+        return rounds::round(call, kept);
+    }
+    if name == call::BAD {
+        print::text(b"bad line\n");
+    }
+    kept
 }

@@ -10,24 +10,26 @@ use upload::HearAnswer;
 use upload::RequestAnswer;
 use upload::StartAnswer;
 
-pub(crate) fn make(call: Call, bytes: &[u8], kept: Kept, file: &mut [u8]) -> Kept {
+pub(crate) fn make(call: Call, bytes: &[u8], kept: Kept) -> Kept {
     match call[0] {
-        call::FILE => keep(call, bytes, kept, file),
+        call::FILE => keep(call, bytes, kept),
         call::SENDER => start(call, kept),
         call::REQUEST => {
-            request(call, kept, file);
+            request(call, kept);
             kept
         }
-        _ => answer(call, bytes, kept, file),
+        _ => answer(call, bytes, kept),
     }
 }
 
 // file BYTES
-fn keep(call: Call, bytes: &[u8], kept: Kept, file: &mut [u8]) -> Kept {
-    output::lay(front(bytes, call[1]), file);
+fn keep(call: Call, bytes: &[u8], kept: Kept) -> Kept {
+    let mut file = [0u8; 4096];
+    output::lay(front(bytes, call[1]), &mut file);
     print::ok_line();
     let mut next = kept;
-    next.file = call[1];
+    next.file = file;
+    next.file_length = call[1];
     next
 }
 
@@ -56,22 +58,23 @@ fn started(call: Call) -> StartAnswer {
 }
 
 // request OUTLEN
-fn request(call: Call, kept: Kept, file: &[u8]) {
+fn request(call: Call, kept: Kept) {
     if !kept.started {
         print::none_line();
         return;
     }
     let mut space = [0xA5u8; 1024];
     let out = output(&mut space, call[1]);
-    let answer = asked(kept, file, out);
+    let answer = asked(kept, out);
     print_request(answer);
     print::last(out);
 }
 
 // The sender's request, with the file as it is kept.
-pub(crate) fn asked(kept: Kept, file: &[u8], out: &mut [u8]) -> RequestAnswer {
+pub(crate) fn asked(kept: Kept, out: &mut [u8]) -> RequestAnswer {
     let sender = kept.sender;
-    sender::request(sender, front(file, kept.file), out)
+    let file = kept.file;
+    sender::request(sender, front(&file, kept.file_length), out)
 }
 
 fn print_request(answer: RequestAnswer) {
@@ -83,12 +86,12 @@ fn print_request(answer: RequestAnswer) {
 }
 
 // answer BYTES
-fn answer(call: Call, bytes: &[u8], kept: Kept, file: &[u8]) -> Kept {
+fn answer(call: Call, bytes: &[u8], kept: Kept) -> Kept {
     if !kept.started {
         print::none_line();
         return kept;
     }
-    match heard(kept, file, front(bytes, call[1])) {
+    match heard(kept, front(bytes, call[1])) {
         HearAnswer::Refused(refusal) => {
             print::refused(refusal);
             answered(kept)
@@ -101,9 +104,10 @@ fn answer(call: Call, bytes: &[u8], kept: Kept, file: &[u8]) -> Kept {
 }
 
 // The sender's answer call, with the file as it is kept.
-pub(crate) fn heard(kept: Kept, file: &[u8], bytes: &[u8]) -> HearAnswer {
+pub(crate) fn heard(kept: Kept, bytes: &[u8]) -> HearAnswer {
     let sender = kept.sender;
-    sender::hear(sender, front(file, kept.file), bytes)
+    let file = kept.file;
+    sender::hear(sender, front(&file, kept.file_length), bytes)
 }
 
 // ` SENDER` and the line's end.

@@ -5,28 +5,45 @@ use crate::call::Call;
 use crate::input::front;
 use crate::input::output;
 use crate::keep::Kept;
+use crate::keep::with_store;
 use crate::keep::with_unit;
 use crate::print;
-use device::Device;
 use device::Outcome;
 use device::Stepped;
 use message::Verdict;
 
-pub(crate) fn make(call: Call, bytes: &[u8], kept: Kept, store: &mut [u8]) -> Kept {
+// What is kept after bytes have arrived at the unit, and what came of them.
+pub struct Arrival {
+    pub kept: Kept,
+    pub outcome: Outcome,
+}
+
+// The same of a work step.
+pub struct Step {
+    pub kept: Kept,
+    pub verdict: Verdict,
+}
+
+pub(crate) fn make(call: Call, bytes: &[u8], kept: Kept) -> Kept {
     if call[0] == call::UNIT {
-        return new(call, kept, store);
+        return new(call, kept);
     }
     if !kept.made {
         print::none_line();
         return kept;
     }
-    let unit = kept.unit;
-    let next = lend(call, bytes, unit, output(store, kept.store));
-    with_unit(kept, next, kept.store)
+    let length = lent(call);
+    if length == ABSENT {
+        return use_store(call, bytes, kept);
+    }
+    // A store that is lent to this call alone: the unit's own is as it was after it.
+    let next = use_store(call, bytes, with_store(kept, [0xA5; 4096], length));
+    let own = kept.store;
+    with_store(next, own, kept.store_length)
 }
 
 // unit LINK OWN STORELEN
-fn new(call: Call, kept: Kept, store: &mut [u8]) -> Kept {
+fn new(call: Call, kept: Kept) -> Kept {
     let made = made(call);
     let verdict = made.verdict;
     let unit = made.device;
@@ -36,9 +53,8 @@ fn new(call: Call, kept: Kept, store: &mut [u8]) -> Kept {
             kept
         }
         Verdict::Passed => {
-            fill(store);
             print::ok_line();
-            with_unit(kept, unit, call[3])
+            with_store(with_unit(kept, unit), [0xA5; 4096], call[3])
         }
     }
 }
@@ -47,25 +63,7 @@ fn made(call: Call) -> Stepped {
     device::make(call::link(call[1]), call::byte(call[2]))
 }
 
-// A lent store is A5 at first.
-fn fill(store: &mut [u8]) {
-    let mut i = 0;
-    while i < store.len() {
-        store[i] = 0xA5;
-        i += 1;
-    }
-}
-
-// Lends the unit's own store, or one of A5 where the call has a length for it.
-fn lend(call: Call, bytes: &[u8], unit: Device, store: &mut [u8]) -> Device {
-    let length = lent(call);
-    if length == ABSENT {
-        return use_store(call, bytes, unit, store);
-    }
-    let mut other = [0xA5u8; 4096];
-    use_store(call, bytes, unit, output(&mut other, length))
-}
-
+// The length of a store that is lent to this call alone.
 fn lent(call: Call) -> usize {
     if call[0] == call::RECEIVE {
         return call[3];
@@ -73,29 +71,42 @@ fn lent(call: Call) -> usize {
     call[1]
 }
 
-fn use_store(call: Call, bytes: &[u8], unit: Device, store: &mut [u8]) -> Device {
+fn use_store(call: Call, bytes: &[u8], kept: Kept) -> Kept {
     match call[0] {
-        call::RECEIVE => receive(call, bytes, unit, store),
-        call::WORK => work(unit, store),
+        call::RECEIVE => receive(call, bytes, kept),
+        call::WORK => work(kept),
         _ => {
-            print::bytes(store);
+            let store = kept.store;
+            print::bytes(front(&store, kept.store_length));
             print::end_line();
-            unit
+            kept
         }
     }
 }
 
 // receive OUTLEN BYTES
-fn receive(call: Call, bytes: &[u8], unit: Device, store: &[u8]) -> Device {
+fn receive(call: Call, bytes: &[u8], kept: Kept) -> Kept {
     let mut space = [0xA5u8; 1024];
     let out = output(&mut space, call[1]);
-    let received = device::receive(unit, front(bytes, call[2]), store, out);
+    let received = received(kept, front(bytes, call[2]), out);
     let outcome = received.outcome;
     print_outcome(outcome);
     print::output(out);
+    let next = received.kept;
+    shown(next)
+}
+
+// The unit's receive call, with the store as it is kept.
+pub(crate) fn received(kept: Kept, bytes: &[u8], out: &mut [u8]) -> Arrival {
+    let unit = kept.unit;
+    let store = kept.store;
+    let received = device::receive(unit, bytes, front(&store, kept.store_length), out);
     let next = received.device;
-    print::unit_line(next);
-    next
+    let outcome = received.outcome;
+    Arrival {
+        kept: with_unit(kept, next),
+        outcome,
+    }
 }
 
 fn print_outcome(outcome: Outcome) {
@@ -107,13 +118,26 @@ fn print_outcome(outcome: Outcome) {
 }
 
 // work
-fn work(unit: Device, store: &mut [u8]) -> Device {
-    let stepped = device::work(unit, store);
-    let verdict = stepped.verdict;
+fn work(kept: Kept) -> Kept {
+    let unit = kept.unit;
+    let worked = worked(kept);
+    let verdict = worked.verdict;
     print_worked(verdict, unit.pending);
+    let next = worked.kept;
+    shown(next)
+}
+
+// The unit's work step, on the store that is kept.
+pub(crate) fn worked(kept: Kept) -> Step {
+    let unit = kept.unit;
+    let mut store = kept.store;
+    let stepped = device::work(unit, output(&mut store, kept.store_length));
     let next = stepped.device;
-    print::unit_line(next);
-    next
+    let verdict = stepped.verdict;
+    Step {
+        kept: with_store(with_unit(kept, next), store, kept.store_length),
+        verdict,
+    }
 }
 
 fn print_worked(verdict: Verdict, pending: bool) {
@@ -127,4 +151,12 @@ fn print_worked(verdict: Verdict, pending: bool) {
             }
         }
     }
+}
+
+// ` UNIT` and the line's end.
+fn shown(kept: Kept) -> Kept {
+    let unit = kept.unit;
+    print::unit(unit);
+    print::end_line();
+    kept
 }
