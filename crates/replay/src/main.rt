@@ -1,11 +1,24 @@
-// replay: runs the scripts of calls that its arguments name, each from an empty start. `-` is standard input, and so is no argument at all.
+// replay: puts the library's calls on text lines. A script has one call to a line, and each line is answered by one. It runs the scripts that its
+// arguments name, each from an empty start. `-` is standard input, and so is no argument at all.
+mod call;
+mod input;
+mod keep;
+mod line;
+mod plain;
+mod print;
+mod rounds;
+mod runner;
+mod sending;
+mod unit;
+mod word;
+
 use libc::STDIN_FILENO;
 use libc::STDOUT_FILENO;
 
 fn main() {
     let count = os::arg_count();
     if count < 2 {
-        console::run(STDIN_FILENO);
+        runner::run(STDIN_FILENO);
         return;
     }
     let mut i = 1;
@@ -19,7 +32,7 @@ fn run_argument(i: usize) {
     let mut name = io::buffer();
     let length = os::arg(i, &mut name);
     if check::same(&name[..length], b"-") {
-        console::run(STDIN_FILENO);
+        runner::run(STDIN_FILENO);
         return;
     }
     run_file(&name[..length]);
@@ -34,6 +47,6 @@ fn run_file(name: &[u8]) {
     }
     io::write_all(STDOUT_FILENO, name);
     io::write_all(STDOUT_FILENO, b"\n");
-    console::run(file);
+    runner::run(file);
     libc::close(file);
 }

@@ -3,8 +3,8 @@ use Prim.Native.Nat.{_-_}
 use mathlib.Core.Path.{_≡_}
 use lib.ListN.{length}
 use borrow.Author.Needs.{needs}
-use Rattle.console.proofs.runner.run_lines.Statement.{statement}
-use Rattle.console.proofs.runner.run_lines.Tie as tie
+use Rattle.replay.proofs.runner.run_lines.Statement.{statement}
+use Rattle.replay.proofs.runner.run_lines.Tie as tie
 
 abbrev Inv-loop : tie.InvT-loop
 Inv-loop script buffer₀ kept₀ next₀ turns₀ buffer kept next turns = length buffer ≡ length buffer₀

@@ -3,8 +3,8 @@ use Prim.Native.Nat.{_-_}
 use mathlib.Core.Path.{_≡_}
 use lib.ListN.{length}
 use borrow.Author.Needs.{needs}
-use Rattle.console.proofs.line.shaped.Statement.{statement}
-use Rattle.console.proofs.line.shaped.Tie as tie
+use Rattle.replay.proofs.line.shaped.Statement.{statement}
+use Rattle.replay.proofs.line.shaped.Tie as tie
 
 abbrev Inv-loop : tie.InvT-loop
 Inv-loop line shape bytes₀ count call₀ k₀ bytes call k = length bytes ≡ length bytes₀

@@ -4,8 +4,8 @@ use mathlib.Core.Path.{_≡_}
 use native.Mathlib.Omega.{arith}
 use lib.ListN.{length, length-set}
 use borrow.Author.Needs.{needs}
-use Rattle.console.proofs.input.drop_line.Statement.{statement}
-use Rattle.console.proofs.input.drop_line.Tie as tie
+use Rattle.replay.proofs.input.drop_line.Statement.{statement}
+use Rattle.replay.proofs.input.drop_line.Tie as tie
 
 abbrev Inv-loop : tie.InvT-loop
 Inv-loop buffer₀ end have to₀ from₀ buffer to from = (to ≤ from) × (have ≤ length buffer) × (length buffer ≡ length buffer₀)

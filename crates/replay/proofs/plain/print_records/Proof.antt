@@ -1,8 +1,8 @@
 -- Carried by arithmetic: the place never passes the array's end.
 use Prim.Native.Nat.{_≤_, _-_}
 use borrow.Author.Needs.{needs}
-use Rattle.console.proofs.plain.print_records.Statement.{statement}
-use Rattle.console.proofs.plain.print_records.Tie as tie
+use Rattle.replay.proofs.plain.print_records.Statement.{statement}
+use Rattle.replay.proofs.plain.print_records.Tie as tie
 
 abbrev Inv-loop : tie.InvT-loop
 Inv-loop count frames i₀ i = i ≤ 64

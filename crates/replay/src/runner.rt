@@ -13,7 +13,7 @@ use crate::sending;
 use crate::unit;
 
 // Makes the calls of a script, one to a line, and writes one line for each to standard output.
-pub fn run(script: i32) {
+pub(crate) fn run(script: i32) {
     let mut buffer = [0u8; 20480];
     run_lines(script, &mut buffer);
 }

@@ -3,8 +3,8 @@ use Prim.Native.Nat.{_-_}
 use mathlib.Core.Path.{_≡_}
 use lib.ListN.{length}
 use borrow.Author.Needs.{needs}
-use Rattle.console.proofs.input.next_line.Statement.{statement}
-use Rattle.console.proofs.input.next_line.Tie as tie
+use Rattle.replay.proofs.input.next_line.Statement.{statement}
+use Rattle.replay.proofs.input.next_line.Tie as tie
 
 abbrev Inv-loop : tie.InvT-loop
 Inv-loop script buffer₀ have₀ beyond₀ turns₀ buffer have beyond turns = length buffer ≡ length buffer₀

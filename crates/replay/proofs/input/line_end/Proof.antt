@@ -2,8 +2,8 @@
 use Prim.Native.Nat.{_≤_, _-_}
 use lib.ListN.{length}
 use borrow.Author.Needs.{needs}
-use Rattle.console.proofs.input.line_end.Statement.{statement}
-use Rattle.console.proofs.input.line_end.Tie as tie
+use Rattle.replay.proofs.input.line_end.Statement.{statement}
+use Rattle.replay.proofs.input.line_end.Tie as tie
 
 abbrev Inv-loop : tie.InvT-loop
 Inv-loop bytes i₀ i = i ≤ length bytes

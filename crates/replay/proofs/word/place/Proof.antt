@@ -1,8 +1,8 @@
 -- Carried by the names that are left.
 use Prim.Native.Nat.{_-_, _≤_}
 use borrow.Author.Needs.{needs}
-use Rattle.console.proofs.word.place.Statement.{statement}
-use Rattle.console.proofs.word.place.Tie as tie
+use Rattle.replay.proofs.word.place.Statement.{statement}
+use Rattle.replay.proofs.word.place.Tie as tie
 
 abbrev Inv-loop : tie.InvT-loop
 Inv-loop word from to k₀ t5 k = from ≤ k
