@@ -1,3 +1,4 @@
 pub mod Lengths
+pub mod Order
 pub mod RoundTrip
 pub mod Tables
