@@ -1,4 +1,6 @@
 // frames: lists the frames of the UART streams that its arguments name. `-` is standard input, and so is no argument at all.
+mod stream;
+
 use libc::STDIN_FILENO;
 use libc::STDOUT_FILENO;
 

@@ -16,7 +16,7 @@ const INPUT: usize = 65537;
 const TEXT: usize = 655380;
 
 // Lists what is read from a file descriptor: all of it, or as much as shows that it is too long.
-pub fn print_listing(input: i32) {
+pub(crate) fn print_listing(input: i32) {
     let mut bytes = input_space();
     let n = io::read_full(input, &mut bytes);
     let mut text = text_space();

@@ -8,8 +8,8 @@ use lib.Seq.{take-append-seam}
 use Rattle.message.proofs.Answers.{lay-refused, lay-length}
 use Rattle.listing.proofs.Bound.{listing-longest}
 use Rattle.listing.specs.Listing.{listing}
-use Rattle.stream.proofs.listed.Statement.{statement}
-use Rattle.stream.proofs.listed.Tie as tie
+use Rattle.frames.proofs.stream.listed.Statement.{statement}
+use Rattle.frames.proofs.stream.listed.Tie as tie
 
 list-requires : tie.Need-list-requires
 list-requires c κs = search needs

@@ -2,8 +2,8 @@
 use Prim.Native.Nat.{ℕ}
 use mathlib.Core.Path.{sym}
 use lib.ListN.{length-replicate}
-use Rattle.stream.proofs.text_space.Statement.{statement}
-use Rattle.stream.proofs.text_space.Tie as tie
+use Rattle.frames.proofs.stream.text_space.Statement.{statement}
+use Rattle.frames.proofs.stream.text_space.Tie as tie
 
 returns : tie.Need-returns
 returns c = sym (length-replicate {0} {A = ℕ} 655380 0)
