@@ -5,6 +5,7 @@ ghost use mathlib.Core.Path.{_≡_};
 ghost use lib.ListN.{getD};
 ghost use Rattle.message.specs.Answer.{readTold, within, counted, laid, given};
 ghost use Rattle.message.specs.Body.{bodyRead};
+ghost use Rattle.message.specs.Kinds.{typeKind};
 ghost use Rattle.csp.specs.Csp.{cspRead};
 use message::ErrorByte;
 use message::Kind;
@@ -24,9 +25,24 @@ pub fn read(bytes: &[u8], out: &mut [u8]) -> ReadAnswer
         return ReadAnswer::Refused(Refusal::Truncated);
     }
     let id = bytes[1];
-    match kinds::type_kind(bytes[0]) {
+    match type_kind(bytes[0]) {
         TypeKind::Unknown => ReadAnswer::Refused(Refusal::UnknownStart),
         TypeKind::Known(kind) => read_body(kind, id, &bytes[2..], out),
+    }
+}
+
+// The kind of one of the types 1..6.
+fn type_kind(number: u8) -> TypeKind
+    ensures { λ r. ⌜ r ≡ typeKind number ⌝ }
+{
+    match number {
+        1 => TypeKind::Known(Kind::Telecommand),
+        2 => TypeKind::Known(Kind::TelecommandAck),
+        3 => TypeKind::Known(Kind::TelecommandNack),
+        4 => TypeKind::Known(Kind::TelemetryRequest),
+        5 => TypeKind::Known(Kind::TelemetryResponse),
+        6 => TypeKind::Known(Kind::TelemetryNack),
+        _ => TypeKind::Unknown,
     }
 }
 

@@ -1,8 +1,8 @@
 -- Carried by the number that each arm matched, and in the last arm by its being none of them.
 use borrow.Author.Tests.{ne-eqb}
 use Rattle.message.specs.Kinds.{typeKind}
-use Rattle.kinds.proofs.type_kind.Statement.{statement}
-use Rattle.kinds.proofs.type_kind.Tie as tie
+use Rattle.csp_reader.proofs.type_kind.Statement.{statement}
+use Rattle.csp_reader.proofs.type_kind.Tie as tie
 
 pub type-kind-spec : {M : Type 1} → statement M
 unfolding typeKind
