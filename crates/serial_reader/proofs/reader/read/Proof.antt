@@ -42,7 +42,7 @@ unfolding frameRead require after within counted laid readTold started
 returns-4 c = rw (le-leb _ _ (c .before .before .before .before .before .before .before .if1 .left), eq-eqb _ _ (c .before .before .before .before .before .if2 .left), le-leb _ _ (c .before .before .before .before .if3 .left), ← c .before .before .start-row .ensures, c .enum-told .given .1) (refl, refl)
 
 same-length : tie.Need-same-length
-same-length c = search needs
+same-length c = c .before .before .read-started .kept .1 .1 .1 .0
 
 returns-5 : tie.Need-returns-5
 unfolding frameRead require after started

@@ -35,7 +35,7 @@ unfolding frameBody require after within counted laid readTold identified
 returns-2 c = rw (← c .before .before .before .before .before .head-length .ensures, ← c .before .before .before .before .before .before .before .before .pre .1, le-leb _ _ (c .before .before .before .before .if1 .left), ← c .before .before .before .id-field .ensures, ← c .before .before .kind-of .ensures, c .enum-told .given .1) (refl, refl)
 
 same-length : tie.Need-same-length
-same-length c = search needs
+same-length c = c .before .before .read-data .kept .1 .1 .1 .1 .1 .1 .0
 
 returns-3 : tie.Need-returns-3
 unfolding frameBody require after identified

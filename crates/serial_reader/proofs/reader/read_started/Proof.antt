@@ -43,7 +43,7 @@ unfolding closed require after within counted laid readTold
 returns-3 c = rw (← c .before .before .scan .ensures .0, c .enum-told2 .given .1) (refl, refl)
 
 same-length : tie.Need-same-length
-same-length c = search needs
+same-length c = c .before .before .read-frame .kept .1 .1 .1 .1 .0
 
 returns-4 : tie.Need-returns-4
 unfolding closed require after

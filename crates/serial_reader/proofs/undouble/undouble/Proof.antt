@@ -1,6 +1,6 @@
 -- Carried by the steps of a scan: before a turn the rest of the body, stored from `to` on, makes the output whole.
 use Prim.Native.Nat.{_+_, _-_}
-use mathlib.Core.Path.{_≡_, _∙_}
+use mathlib.Core.Path.{_≡_, refl, _∙_}
 use native.Mathlib.Omega.{arith}
 use borrow.Author.Needs.{needs}
 use denote.Ref.{now}
@@ -19,7 +19,7 @@ abbrev μ-loop : tie.MeasureT-loop
 μ-loop bytes from out₀ at₀ to₀ out at to = length bytes - at
 
 loop-holds : tie.Need-loop-holds Inv-loop μ-loop
-loop-holds c = search needs
+loop-holds c = (refl, (c .before .before .pre .0, omega arith, refl))
 
 copy-plain-requires : tie.Need-copy-plain-requires Inv-loop μ-loop
 copy-plain-requires c κs = (c .before .loop .inv .1 .0, c .before .loop .inv .1 .1)
