@@ -1,5 +1,7 @@
 -- Carried by the laws of one frame: before a turn the rest of the payload, stored from `to` on, makes the output whole.
-use Prim.Native.Nat.{_+_, _-_, _≤_}
+use Prim.Native.Nat.{_+_, _-_, _≤_, _<_}
+use mir.Syntax.{w64}
+use mir.Val.{Fits}
 use mathlib.Core.Path.{_≡_, refl, _∙_}
 use native.Mathlib.Omega.{arith}
 use borrow.Author.Needs.{needs}
@@ -23,6 +25,10 @@ abbrev μ-loop : tie.MeasureT-loop
 
 loop-holds : tie.Need-loop-holds Inv-loop μ-loop
 loop-holds c = let s = c .before .before in (refl, store-first (now (s .args .bytes)) (now (s .args .out)) (s .args .size) (s .pre .0) (s .pre .1) (s .pre .2))
+
+-- Said at the start of a turn, where there is little to search: both places stay in range, and the rest gets shorter.
+steps : (c : tie.In-loop Inv-loop μ-loop) → let b = now (c .before .before .before .before .args .bytes) in let l = c .before .loop in Fits w64 (l .to + (getD b (l .at + 4) 0 - 1)) × Fits w64 (l .at + 13) × (length b - (l .at + 13) < length b - l .at)
+steps c = let t = store-step _ _ _ _ _ _ (c .before .loop .inv .1) (c .loop-test .taken) in (omega arith, omega arith, omega arith)
 
 add-n : tie.Need-add-n Inv-loop μ-loop
 add-n c = let t = store-step _ _ _ _ _ _ (c .before .loop .inv .1) (c .loop-test .taken) in omega arith
@@ -58,7 +64,7 @@ sub-lay-2 : tie.Need-sub-lay-2 Inv-loop μ-loop
 sub-lay-2 c = let t = store-step _ _ _ _ _ _ (c .before .before .before .loop .inv .1) (c .before .before .loop-test .taken) in omega (arith, t .within, c .before .before .before .loop .inv .0, c .before .before .before .before .before .before .pre .2)
 
 part-lay-start-2 : tie.Need-part-lay-start-2 Inv-loop μ-loop
-part-lay-start-2 c = let t = store-step _ _ _ _ _ _ (c .before .before .before .loop .inv .1) (c .before .before .loop-test .taken) in omega (arith, t .within, c .before .before .before .loop .inv .0, c .before .before .before .before .before .before .pre .2)
+part-lay-start-2 = sub-lay-2
 
 part-lay-end-2 : tie.Need-part-lay-end-2 Inv-loop μ-loop
 part-lay-end-2 c = search needs
@@ -67,13 +73,13 @@ lay-requires : tie.Need-lay-requires Inv-loop μ-loop
 lay-requires c κs = search needs
 
 add-to : tie.Need-add-to Inv-loop μ-loop
-add-to c = let t = store-step _ _ _ _ _ _ (c .before .before .before .before .before .before .before .loop .inv .1) (c .before .before .before .before .before .before .loop-test .taken) in omega arith
+add-to c = steps (c .before .before .before .before .before .before) .0
 
 add-at : tie.Need-add-at Inv-loop μ-loop
-add-at c = let t = store-step _ _ _ _ _ _ (c .before .before .before .before .before .before .before .loop .inv .1) (c .before .before .before .before .before .before .loop-test .taken) in omega arith
+add-at c = steps (c .before .before .before .before .before .before) .1
 
 loop-less : tie.Need-loop-less Inv-loop μ-loop
-loop-less c = let t = store-step _ _ _ _ _ _ (c .before .before .before .before .before .before .before .loop .inv .1) (c .before .before .before .before .before .before .loop-test .taken) in omega arith
+loop-less c = steps (c .before .before .before .before .before .before) .2
 
 loop-again : tie.Need-loop-again Inv-loop μ-loop
 loop-again c =
