@@ -5,12 +5,11 @@ use mathlib.Core.Bool.{true, false}
 use mathlib.Core.List.{List, [], _∷_}
 use lib.ListN.{length}
 use mathlib.Core.Path.{_≡_, refl, _∙_}
-use Rattle.message.specs.Answer.{Answer, refused, given, number, passed, failed, require, after, within, verdictTold}
+use Rattle.message.specs.Answer.{Answer, refused, given, number, passed, failed, within, verdictTold}
 use Rattle.message.specs.declared.Refusal.{Refusal}
 use Rattle.message.specs.declared.Verdict.the-variants.{Passed, Refused}
-use Rattle.link.proofs.Laws.{no-bytes}
 use Rattle.device_rules.specs.Answers.{afterReceive}
-use Rattle.device_rules.specs.Receive.{Reply, silent, messageReply, receive}
+use Rattle.device_rules.specs.Receive.{Reply, receive}
 use Rattle.device_rules.specs.Work.{work, storeAfter, afterWork}
 use Rattle.device_rules.specs.declared.Device.{Device}
 use Rattle.upload.specs.Round.{hear}
@@ -19,7 +18,7 @@ use Rattle.upload.specs.Schedule.{output, exchange, requested, roundCalls}
 use Rattle.upload.specs.Sender.{Asked, isRunning, request}
 use Rattle.upload.specs.World.{World, shared, lent, kept, Call, works, asks, arrives, hears, bytesOr, senderOr, does}
 use Rattle.upload.specs.declared.Fate.{Fate}
-use Rattle.upload.specs.declared.Fate.the-variants.{Delivered, RequestLost, AnswerLost, Twice}
+use Rattle.upload.specs.declared.Fate.the-variants.{Delivered, AnswerLost, Twice}
 use Rattle.upload.specs.declared.Round.{Round}
 use Rattle.upload.specs.declared.Sender.{Sender}
 use Rattle.rounds.specs.declared.Rounded.{Rounded}
@@ -108,36 +107,18 @@ pub twice-ends : (r : Rounded) (d : Device) (store : List ℕ) (s : Sender) (fil
 unfolding exchange callCheck answerCheck does lent
 twice-ends r d store s file rq a x e next n k = goes-on r store file (asking d store s rq) (arrival r d store s file rq) _ (rw e) (forgets r _ store s file rq _ (rw n at k))
 
--- A sender that has ended: nothing is sent, so the unit hears nothing that it could read, and the sender stays as it is.
-module _ (r : Rounded) (d : Device) (store : List ℕ) (s : Sender) (file : List ℕ) (over : isRunning (s .state) ≡ false) (same : (r .device ≡ d) × (r .sender ≡ s) × (r .verdict ≡ Passed)) where
-  hears-none : (b : List ℕ) → hear s file b ≡ given s tt
-  unfolding hear
-  hears-none b = rw over
-
-  answers-none : answer r d store s file [] ≡ given (silent d) []
-  unfolding within receive messageReply after require
-  answers-none = rw (no-bytes (d .link))
-
-  stays : (b : List ℕ) → Heard r (afterReceive d (answer r d store s file [])) s file b
-  unfolding answerCheck senderOr verdictTold afterReceive
-  stays b = rw (hears-none b, answers-none, same .2) (refl, same .0, same .1)
-
-  delivers-none : Ends r store file (asking d store s []) (exchange file (asking d store s []) Delivered)
-  delivers-none = delivered-ends r d store s file [] (silent d) [] answers-none (stays [])
-
-  pub ended : (f : Fate) → Ends r store file (asking d store s []) (exchange file (asking d store s []) f)
-  unfolding exchange afterReceive
-  ended Delivered = delivers-none
-  ended RequestLost = last-call r file (asking d store s []) [] (rw answers-none at (stays []))
-  ended AnswerLost = lost-ends r d store s file [] (silent d) [] answers-none (stays [])
-  ended Twice = twice-ends r d store s file [] (silent d) [] answers-none d (rw answers-none) delivers-none
-
 -- The sender's request in front of the exchange.
 module _ (r : Rounded) (d : Device) (store : List ℕ) (s : Sender) (file : List ℕ) (f : Fate) where
-  pub requested-ends : (a : Asked) (x : List ℕ) → within output (request s file) ≡ given a x → Ends r store file (asking d store s x) (exchange file (asking d store s x) f)
-      → Ends r store file (atRest d store s) (requested file (atRest d store s) f)
+  pub requested-ends : isRunning (s .state) ≡ true → (a : Asked) (x : List ℕ) → within output (request s file) ≡ given a x
+      → Ends r store file (asking d store s x) (exchange file (asking d store s x) f) → Ends r store file (atRest d store s) (requested file (atRest d store s) f)
   unfolding requested callCheck answerCheck does lent bytesOr
-  requested-ends a x e k = goes-on r store file (atRest d store s) (asks shared output) _ (rw e) (rw e k)
+  requested-ends on a x e k = rw on (goes-on r store file (atRest d store s) (asks shared output) _ (rw e) (rw e k))
+
+  -- A sender that has ended writes none, and nothing follows.
+  pub requested-ended : isRunning (s .state) ≡ false → (a : Asked) (x : List ℕ) → within output (request s file) ≡ given a x
+      → (r .device ≡ d) × (r .sender ≡ s) × (r .verdict ≡ Passed) → Ends r store file (atRest d store s) (requested file (atRest d store s) f)
+  unfolding requested callCheck answerCheck does lent made firstRefusal verdictTold
+  requested-ended over a x e k = rw over (goes-on r store file (atRest d store s) (asks shared output) [] (rw e) (rw (k .2) (refl, k .0, k .1, refl)))
 
   pub requested-stopped : (g : Refusal) → within output (request s file) ≡ refused (number g) → Stopped r d s g → Ends r store file (atRest d store s) (requested file (atRest d store s) f)
   unfolding requested callCheck answerCheck lent

@@ -44,6 +44,15 @@ nothing-ended s file out b e = by (isRunning (s .state)) refl
     by true q = absurd (asked-something _ _ out b (rw q at e))
     by false q = q
 
+-- One that has written a request runs.
+pub written-runs : (s : Sender) (file b : List ℕ) → within output (request s file) ≡ given asks b → isRunning (s .state) ≡ true
+unfolding request within after require
+written-runs s file b e = by (isRunning (s .state)) refl
+  where
+    by : (t : Bool) → isRunning (s .state) ≡ t → isRunning (s .state) ≡ true
+    by true q = q
+    by false q = absurd (let z : _≡_ {A = ℕ} 0 1 = cc (rw q at e) in omega arith)
+
 -- What the unit made of a request.
 module _ (d : Device) (n : ℕ) (rq : List ℕ) (o : Outcome) (next : Device) (told : receiveTold o next ≡ counted (within output (receive d n rq))) where
   pub answered : (left : List ℕ) → left ≡ laid (within output (receive d n rq)) output → (k : ℕ) → o ≡ Outcome·of.Answer k

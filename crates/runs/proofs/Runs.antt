@@ -18,7 +18,7 @@ use Rattle.upload.specs.declared.Round.{Round}
 use Rattle.upload.specs.declared.Sender.{Sender}
 use Rattle.upload.proofs.Begin.{upload, begins}
 use Rattle.upload.proofs.Keeps.{running}
-use Rattle.upload.proofs.Schedules.{works-free, asks-free, arrives-free, hears-free, one, two, asks-one, works-one, round-at, run-append}
+use Rattle.upload.proofs.Schedules.{works-free, asks-free, arrives-free, hears-free, ended-works-free, ended-asks-free, requested-runs, requested-ended, one, two, asks-one, works-one, round-at, ended-round, run-append}
 use Rattle.upload.proofs.Table.{Upload, Running·, Invariant}
 
 -- No call of a list is refused.
@@ -63,9 +63,14 @@ module _ (file : List ℕ) where
   same-requested : (f : Fate) (d : Device) (store : List ℕ) (s : Sender) (rq an rq′ an′ : List ℕ) → Unrefused file (worldOf d store s rq′ an′) (requested file (worldOf d store s rq′ an′) f)
       → requested file (worldOf d store s rq an) f ≡ requested file (worldOf d store s rq′ an′) f
   unfolding requested does isRefused Unrefused
-  same-requested f d store s rq an rq′ an′ u =
-      ap (λ (h : List Call). asks shared output ∷ h)
-      (ap (λ (b : List ℕ). exchange file (worldOf d store s b an) f) (same-bytes _ rq rq′ (u .0)) ∙ same-exchange f d store s _ an an′ (u .1))
+  same-requested f d store s rq an rq′ an′ u = by (isRunning (s .state)) refl
+    where
+      by : (t : Bool) → isRunning (s .state) ≡ t → requested file (worldOf d store s rq an) f ≡ requested file (worldOf d store s rq′ an′) f
+      by true e =
+          rw e
+          (ap (λ (h : List Call). asks shared output ∷ h)
+          (ap (λ (b : List ℕ). exchange file (worldOf d store s b an) f) (same-bytes _ rq rq′ (u .0)) ∙ same-exchange f d store s _ an an′ (rw e at u .1)))
+      by false e = rw e refl
 
   same-round : (r : Round) (d : Device) (store : List ℕ) (s : Sender) (rq an rq′ an′ : List ℕ) → Unrefused file (worldOf d store s rq′ an′) (roundCalls file (worldOf d store s rq′ an′) r)
       → roundCalls file (worldOf d store s rq an) r ≡ roundCalls file (worldOf d store s rq′ an′) r
@@ -103,8 +108,10 @@ module _ (u : Upload) where
       )
 
   requested-free : (f : Fate) (d : Bool) (w : World) (past : List Bool) (marks : ℕ → Mark) → Running· u (begun d) w past marks → Unrefused (u .file) w (requested (u .file) w f)
-  unfolding requested Unrefused
-  requested-free f d w past marks h = (asks-free u w past marks (begun d) h, exchange-free f d _ past _ (asks-one u f d w past marks h))
+  unfolding Unrefused
+  requested-free f d w past marks h =
+      rw (requested-runs (u .file) w f (rw (h .sends)))
+      (asks-free u w past marks (begun d) h, exchange-free f d _ past _ (asks-one u f d w past marks h))
 
   round-free : (r : Round) (w : World) (past : List Bool) (marks : ℕ → Mark) → Running· u between w past marks → Unrefused (u .file) w (roundCalls (u .file) w r)
   unfolding roundCalls Unrefused
@@ -114,28 +121,43 @@ module _ (u : Upload) where
       by true e = rw e (works-free u w past marks between h, requested-free (r .fate) true _ past _ (works-one u w past marks h))
       by false e = rw e (requested-free (r .fate) false w past marks h)
 
+  -- Nor after the sender's end.
+  ended-requested-free : (f : Fate) (w : World) (past : List Bool) (marks : ℕ → Mark) → isRunning (w .sender .state) ≡ false → Unrefused (u .file) w (requested (u .file) w f)
+  unfolding Unrefused
+  ended-requested-free f w past marks over = rw (requested-ended (u .file) w f over) (ended-asks-free u w past marks over, tt)
+
+  ended-free : (r : Round) (w : World) (past : List Bool) (marks : ℕ → Mark) → isRunning (w .sender .state) ≡ false → Invariant u w past marks between → Unrefused (u .file) w (roundCalls (u .file) w r)
+  unfolding roundCalls Unrefused does
+  ended-free r w past marks over h = by (r .worked) refl
+    where
+      by : (t : Bool) → r .worked ≡ t → Unrefused (u .file) w (roundCalls (u .file) w r)
+      by true e = rw e (ended-works-free u w past marks over h, ended-requested-free (r .fate) _ past marks over)
+      by false e = rw e (ended-requested-free (r .fate) w past marks over)
+
+  -- So from a round to the next the invariant holds, and nothing is refused.
+  abbrev Next : Round → World → Type 0
+  Next r w = Unrefused (u .file) w (roundCalls (u .file) w r) × ((past : List Bool) × ((marks : ℕ → Mark) × Invariant u (run (u .file) w (roundCalls (u .file) w r)) past marks between))
+
+  next-round : (r : Round) (w : World) (past : List Bool) (marks : ℕ → Mark) → Invariant u w past marks between → Next r w
+  next-round r w past marks h = by (isRunning (w .sender .state)) refl
+    where
+      by : (t : Bool) → isRunning (w .sender .state) ≡ t → Next r w
+      by true e = let k = running u w past marks between e h in (round-free r w past marks k, round-at u w past marks k r)
+      by false e = let k = ended-round u w past marks e h r in (ended-free r w past marks e h, (past, (k .marks, k .kept)))
+
   abbrev Runs : List Round → Type 0
   Runs rs = (v w : World) (past : List Bool) (marks : ℕ → Mark) → Same v w → Invariant u w past marks between
       → (roundsRefusal (u .file) v rs ≡ passed) × Same (roundsMade (u .file) v rs) (run (u .file) w (scheduled (u .file) w rs))
 
   runs-more : (r : Round) (rs : List Round) → Runs rs → Runs (r ∷ rs)
   unfolding roundsRefusal roundsMade scheduled choose run
-  runs-more r rs more v w past marks s h = by (isRunning (w .sender .state)) refl
-    where
-      by : (t : Bool) → isRunning (w .sender .state) ≡ t
-          → (roundsRefusal (u .file) v (r ∷ rs) ≡ passed) × Same (roundsMade (u .file) v (r ∷ rs)) (run (u .file) w (scheduled (u .file) w (r ∷ rs)))
-      by false e =
-          let same-state : isRunning (v .sender .state) ≡ false = rw (s .sender) e in
-          rw (same-state, e) (refl, s)
-      by true e =
-          let runs-on = running u w past marks between e h in
-          let next = round-at u w past marks runs-on r in
-          let from-rest : World = atRest (v .device) (v .store) (v .sender) in
-          let same : (roundRefusal (u .file) from-rest r ≡ passed) × Same (roundMade (u .file) from-rest r) (run (u .file) w (roundCalls (u .file) w r)) =
-          rw (s .device, s .store, s .sender) (round-same (u .file) r w (round-free r w past marks runs-on)) in
-          let rest = more _ _ (next .0) (next .1 .0) (same .1) (next .1 .1) in
-          let same-state : isRunning (v .sender .state) ≡ true = rw (s .sender) e in
-          rw (same-state, e, same .0, run-append (u .file) w (roundCalls (u .file) w r) _) rest
+  runs-more r rs more v w past marks s h =
+      let next = next-round r w past marks h in
+      let from-rest : World = atRest (v .device) (v .store) (v .sender) in
+      let same : (roundRefusal (u .file) from-rest r ≡ passed) × Same (roundMade (u .file) from-rest r) (run (u .file) w (roundCalls (u .file) w r)) =
+      rw (s .device, s .store, s .sender) (round-same (u .file) r w (next .0)) in
+      let rest = more _ _ (next .1 .0) (next .1 .1 .0) (same .1) (next .1 .1 .1) in
+      rw (same .0, run-append (u .file) w (roundCalls (u .file) w r) _) rest
 
   runs : (rs : List Round) → Runs rs
   unfolding roundsRefusal roundsMade scheduled run

@@ -1,14 +1,12 @@
 -- A round as it is run (document 01, "The sender and its rounds"): its calls one after the other, up to the first that is refused, since of
 -- a refused call "nothing moves" and none of them "is a round".
 use Prim.Native.Nat.{ℕ}
-use mathlib.Core.Bool.{cond}
 use mathlib.Core.List.{List, [], _∷_}
 use mathlib.Core.Path.{_≡_}
 use Rattle.message.specs.Answer.{Answer, Check, refused, given, passed, failed}
 use Rattle.device_rules.specs.declared.Device.{Device}
 use Rattle.upload.specs.Demand.{Start}
 use Rattle.upload.specs.Schedule.{roundCalls, scheduled}
-use Rattle.upload.specs.Sender.{isRunning}
 use Rattle.upload.specs.World.{World, Call, works, asks, arrives, hears, workAnswer, askAnswer, arriveAnswer, hearAnswer, does, run}
 use Rattle.upload.specs.declared.Round.{Round}
 use Rattle.upload.specs.declared.Sender.{Sender}
@@ -42,22 +40,23 @@ unfoldable pub firstRefusal : List ℕ → World → List Call → Check
 firstRefusal file w [] = passed
 firstRefusal file w (c ∷ h) = choose (callCheck file w c) (firstRefusal file (does file w c) h) (callCheck file w c)
 
+-- A round, "the unit's work step, done or not, then one exchange": what its calls make, and the first refusal among them.
 unfoldable pub roundMade : List ℕ → World → Round → World
 roundMade file w r = made file w (roundCalls file w r)
 
 unfoldable pub roundRefusal : List ℕ → World → Round → Check
 roundRefusal file w r = firstRefusal file w (roundCalls file w r)
 
--- Rounds one after the other until the sender ends, each with unit, store and sender as the last left them, and the first refusal among them.
+-- Rounds one after the other, each with unit, store and sender as the last left them, and the first refusal among them.
 unfoldable pub roundsMade : List ℕ → World → List Round → World
 roundsMade file w [] = w
-roundsMade file w (r ∷ rs) = cond (isRunning (w .sender .state)) (roundsMade file (roundMade file (atRest (w .device) (w .store) (w .sender)) r) rs) w
+roundsMade file w (r ∷ rs) = roundsMade file (roundMade file (atRest (w .device) (w .store) (w .sender)) r) rs
 
 unfoldable pub roundsRefusal : List ℕ → World → List Round → Check
 roundsRefusal file w [] = passed
 roundsRefusal file w (r ∷ rs) =
     let v = atRest (w .device) (w .store) (w .sender) in
-    cond (isRunning (w .sender .state)) (choose (roundRefusal file v r) (roundsRefusal file (roundMade file v r) rs) (roundRefusal file v r)) passed
+    choose (roundRefusal file v r) (roundsRefusal file (roundMade file v r) rs) (roundRefusal file v r)
 
 -- The same unit, store and sender.
 pub record Same (v w : World) : Type 0 where

@@ -82,9 +82,9 @@ module _ (u : Upload) (w : World) (past : List Bool) (marks : ℕ → Mark) wher
         stands = worked-stands (h .stage) (h .buffer) (h .frame) (h .stored) (h .stands);
       }
 
-  pub keeps-work : isRefused (u .file) w (works shared) ≡ false → Running· u (begun false) w past marks → Running· u (begun true) (does (u .file) w (works shared)) past (marksAfter (u .file) w (works shared) marks)
+  pub keeps-work : (d : Bool) → isRefused (u .file) w (works shared) ≡ false → Running· u (begun d) w past marks → Running· u (begun true) (does (u .file) w (works shared)) past (marksAfter (u .file) w (works shared) marks)
   unfolding does row-works
-  keeps-work e h = record { row = row-works e (h .row); since = h .since; sends = h .sends; place = worked-quiet (h .row .stage) (h .row .buffer); course = h .course }
+  keeps-work d e h = record { row = row-works e (h .row); since = h .since; sends = h .sends; place = worked-quiet (h .row .stage) (h .row .buffer); course = h .course }
 
   -- The sender's request.
   pub keeps-ask : (d : Bool) (out : List ℕ) → isRefused (u .file) w (asks shared out) ≡ false → Running· u (begun d) w past marks
@@ -171,7 +171,7 @@ module _ (u : Upload) (w : World) (past : List Bool) (marks : ℕ → Mark) wher
   running p n (done h) = absurd (let z : _≡_ {A = ℕ} 0 1 = cc (rw (h .sends) at n) in omega arith)
 
   -- After the end: a work step,
-  ended-works : isRefused (u .file) w (works shared) ≡ false → isRunning (w .sender .state) ≡ false → Invariant u w past marks between
+  pub ended-works : isRefused (u .file) w (works shared) ≡ false → isRunning (w .sender .state) ≡ false → Invariant u w past marks between
       → Invariant u (does (u .file) w (works shared)) past (marksAfter (u .file) w (works shared) marks) between
   unfolding does row-works
   ended-works e n (runs h) = absurd (let z : _≡_ {A = ℕ} 0 1 = cc (rw (h .sends) at n) in omega arith)
@@ -179,7 +179,7 @@ module _ (u : Upload) (w : World) (past : List Bool) (marks : ℕ → Mark) wher
   ended-works e n (done h) = done (record { frame = h .frame; since = h .since; unit = unit-works (frames u) free e (h .unit); sends = h .sends; last = h .last })
 
   -- and the sender's calls, which change nothing of it.
-  ended-asks : (l : Lent) (out : List ℕ) → isRunning (w .sender .state) ≡ false → Invariant u w past marks between
+  pub ended-asks : (l : Lent) (out : List ℕ) → isRunning (w .sender .state) ≡ false → Invariant u w past marks between
       → Invariant u (does (u .file) w (asks l out)) past (marksAfter (u .file) w (asks l out) marks) between
   unfolding does markCall row-marks
   ended-asks l out n (runs h) = absurd (let z : _≡_ {A = ℕ} 0 1 = cc (rw (h .sends) at n) in omega arith)
@@ -203,7 +203,7 @@ pub keeps : (u : Upload) {w : World} {p : Place} {h : List Call} {rounds : List 
 unfolding run markAfter
 keeps u {p = p} stops past marks h = (p, rw append-nil h)
 keeps u (refuses {w = w} {p = p} {c = c} e r) past marks h = keeps u r past _ (keeps-refused u w past marks p c e h)
-keeps u (workDone {w = w} n e r) past marks h = keeps u r past _ (runs (keeps-work u w past marks e (running u w past marks (begun false) n h)))
+keeps u (workDone {w = w} {d = d} n e r) past marks h = keeps u r past _ (runs (keeps-work u w past marks d e (running u w past marks (begun d) n h)))
 keeps u (requestMade {w = w} {d = d} {out = out} n e r) past marks h = keeps u r past _ (runs (keeps-ask u w past marks d out e (running u w past marks (begun d) n h)))
 keeps u (requestArrives {w = w} {d = d} {out = out} e r) past marks (runs h) = keeps u r past _ (runs (keeps-arrive u w past marks (asked d) d out h (h .place .0) (h .place .1) e))
 keeps u (requestRepeats {w = w} {d = d} {out = out} e r) past marks (runs h) = keeps u r past _ (runs (again u _ past _ d (keeps-arrive u w past marks (arrived d) d out h (h .place .0) (h .place .1) e)))

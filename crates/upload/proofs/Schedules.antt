@@ -2,7 +2,7 @@
 use Prim.Native.Nat.{ℕ, _≤_}
 use mathlib.Core.Bool.{Bool, true, false, _&&_}
 use mathlib.Core.List.{List, [], _∷_, _++_}
-use mathlib.Core.Path.{_≡_, refl, ap}
+use mathlib.Core.Path.{_≡_, refl, ap, _∙_}
 use native.Mathlib.Omega.{arith}
 use borrow.Author.Tests.{eq-eqb, le-leb}
 use lib.ListN.{length, length-replicate}
@@ -15,7 +15,7 @@ use Rattle.device_rules.specs.Receive.{answers, receive}
 use Rattle.upload.specs.Round.{hear}
 use Rattle.upload.specs.Sender.{isRunning, checked, sameFile, request}
 use Rattle.upload.specs.Sender as sent
-use Rattle.upload.specs.Legal.{Place, begun, asked, arrived, repeated, between, Legal, stops, workDone, requestMade, requestArrives, requestRepeats, delivered, requestLost, answerLost, twice}
+use Rattle.upload.specs.Legal.{Place, begun, asked, arrived, repeated, between, Legal, stops, workDone, requestMade, requestArrives, requestRepeats, delivered, requestLost, answerLost, twice, endedWorks, endedAsks}
 use Rattle.upload.specs.Schedule.{comesBack, isGood, goods, output, exchange, requested, roundCalls, scheduled, Realised, EverySchedule}
 use Rattle.upload.specs.declared.Fate.{Fate}
 use Rattle.upload.specs.declared.Fate.the-variants.{Delivered, RequestLost, AnswerLost, Twice}
@@ -25,9 +25,9 @@ use Rattle.upload.specs.World.{World, shared, lent, Call, works, asks, a
 use Rattle.upload.proofs.Arriving.{arrivedBuffer, arrival}
 use Rattle.upload.proofs.Asking.{asks-bytes}
 use Rattle.upload.proofs.Begin.{upload, begins}
-use Rattle.upload.proofs.Keeps.{keeps-work, keeps-ask, keeps-arrive, again, keeps-lost, keeps-delivered, running, marksAfter}
+use Rattle.upload.proofs.Keeps.{keeps-work, keeps-ask, keeps-arrive, again, keeps-lost, keeps-delivered, running, ended-works, ended-asks, marksAfter}
 use Rattle.device_rules.proofs.Faults.{unitAt}
-use Rattle.upload.proofs.Table.{Upload, isPending, Quiet, Asked, Running·, Invariant}
+use Rattle.upload.proofs.Table.{Upload, free, isPending, Quiet, frames, Asked, Running·, Invariant, runs, gaveUp, done}
 use Rattle.upload.proofs.Working.{work-free}
 
 -- No link needs more room.
@@ -62,6 +62,28 @@ module _ (u : Upload) (w : World) (past : List Bool) (marks : ℕ → Mark) (p :
   pub hears-free : (b : List ℕ) → isRefused (u .file) w (hears shared b) ≡ false
   unfolding isRefused lent hear sameFile checked isRefusal require
   hears-free b = rw (h .sends, eq-eqb (length (u .file)) (length (u .file)) refl)
+
+-- The same of a round's calls after the sender's end.
+module _ (u : Upload) (w : World) (past : List Bool) (marks : ℕ → Mark) (over : isRunning (w .sender .state) ≡ false) where
+  pub ended-works-free : Invariant u w past marks between → isRefused (u .file) w (works shared) ≡ false
+  unfolding isRefused lent
+  ended-works-free (runs h) = absurd (let z : _≡_ {A = ℕ} 0 1 = cc (rw (h .sends) at over) in omega arith)
+  ended-works-free (gaveUp h) = work-free u (h .row .stored) (h .row .buffer) (w .device) (w .store) marks (h .row .unit)
+  ended-works-free (done h) = work-free u (frames u) free (w .device) (w .store) marks (h .unit)
+
+  pub ended-asks-free : isRefused (u .file) w (asks shared output) ≡ false
+  unfolding isRefused isRefusal within after require request
+  ended-asks-free = rw over
+
+-- A sender that runs writes a request, and the exchange follows; one that has ended writes none.
+module _ (file : List ℕ) (w : World) (f : Fate) where
+  pub requested-runs : isRunning (w .sender .state) ≡ true → requested file w f ≡ asks shared output ∷ exchange file (does file w (asks shared output)) f
+  unfolding requested
+  requested-runs e = rw e
+
+  pub requested-ended : isRunning (w .sender .state) ≡ false → requested file w f ≡ asks shared output ∷ []
+  unfolding requested
+  requested-ended e = rw e
 
 pub run-append : (file : List ℕ) (w : World) (a b : List Call) → run file w (a ++ b) ≡ run file (run file w a) b
 unfolding run
@@ -116,22 +138,27 @@ module _ (u : Upload) where
 
   -- The request in front of it,
   module _ (f : Fate) (d : Bool) (w : World) (past : List Bool) (marks : ℕ → Mark) (h : Running· u (begun d) w past marks) where
+    runs-on : isRunning (w .sender .state) ≡ true
+    runs-on = rw (h .sends)
+
     pub asks-one : Running· u (asked d) (does (u .file) w (asks shared output)) past (marksAfter (u .file) w (asks shared output) marks)
     asks-one = keeps-ask u w past marks d output (asks-free u w past marks (begun d) h) h
 
     requested-at : (past′ : List Bool) × ((marks′ : ℕ → Mark) × Invariant u (run (u .file) w (requested (u .file) w f)) past′ marks′ between)
-    unfolding run requested
-    requested-at = exchanged f d _ past _ asks-one
+    unfolding run
+    requested-at = rw (requested-runs (u .file) w f runs-on) (exchanged f d _ past _ asks-one)
 
     requested-legal : (rest : List Call) (rounds : List Bool) → Legal (u .file) (run (u .file) w (requested (u .file) w f)) between rest rounds
         → Legal (u .file) w (begun d) (requested (u .file) w f ++ rest) ((d && comesBack f) ∷ rounds)
-    unfolding run requested
-    requested-legal rest rounds r = requestMade {w = w} (rw (h .sends)) (asks-free u w past marks (begun d) h) (exchange-legal f d _ past _ asks-one rest rounds r)
+    unfolding run
+    requested-legal rest rounds r =
+        let calls = requested-runs (u .file) w f runs-on in
+        rw calls (requestMade {w = w} runs-on (asks-free u w past marks (begun d) h) (exchange-legal f d _ past _ asks-one rest rounds (rw calls at r)))
 
   -- and the work step, done or not.
   module _ (w : World) (past : List Bool) (marks : ℕ → Mark) (h : Running· u between w past marks) where
     pub works-one : Running· u (begun true) (does (u .file) w (works shared)) past (marksAfter (u .file) w (works shared) marks)
-    works-one = keeps-work u w past marks (works-free u w past marks between h) h
+    works-one = keeps-work u w past marks false (works-free u w past marks between h) h
 
     pub round-at : (r : Round) → (past′ : List Bool) × ((marks′ : ℕ → Mark) × Invariant u (run (u .file) w (roundCalls (u .file) w r)) past′ marks′ between)
     unfolding run roundCalls
@@ -150,6 +177,42 @@ module _ (u : Upload) where
         by true e = rw e (workDone {w = w} (rw (h .sends)) (works-free u w past marks between h) (requested-legal (r .fate) true _ past _ works-one rest rounds (rw e at l)))
         by false e = rw e (requested-legal (r .fate) false w past marks h rest rounds (rw e at l))
 
+  -- What calls after the sender's end are: they keep the invariant and the sender, and are legal as no round.
+  pub record Idle (w : World) (past : List Bool) (h : List Call) : Type 0 where
+    pub marks : ℕ → Mark
+    pub kept : Invariant u (run (u .file) w h) past marks between
+    pub sender : run (u .file) w h .sender ≡ w .sender
+    pub legal : (rest : List Call) → Legal (u .file) (run (u .file) w h) between rest [] → Legal (u .file) w between (h ++ rest) []
+
+  -- Such are the calls of a round,
+  module _ (w : World) (past : List Bool) (marks : ℕ → Mark) (over : isRunning (w .sender .state) ≡ false) (h : Invariant u w past marks between) where
+    ended-asked : (f : Fate) → Idle w past (requested (u .file) w f)
+    unfolding run does
+    ended-asked f =
+        rw (requested-ended (u .file) w f over)
+        (record { marks = _; kept = ended-asks u w past marks shared output over h; sender = refl; legal = λ rest r. endedAsks over r })
+
+  pub ended-round : (w : World) (past : List Bool) (marks : ℕ → Mark) → isRunning (w .sender .state) ≡ false → Invariant u w past marks between → (r : Round) → Idle w past (roundCalls (u .file) w r)
+  unfolding run does roundCalls
+  ended-round w past marks over h r = by (r .worked) refl
+    where
+      by : (d : Bool) → r .worked ≡ d → Idle w past (roundCalls (u .file) w r)
+      by true e =
+          let free = ended-works-free u w past marks over h in
+          let asked = ended-asked _ past _ over (ended-works u w past marks free over h) (r .fate) in
+          rw e (record { marks = asked .marks; kept = asked .kept; sender = asked .sender; legal = λ rest l. endedWorks over free (asked .legal rest l) })
+      by false e = rw e (ended-asked w past marks over h (r .fate))
+
+  -- and of rounds one after the other.
+  ended-schedule : (rs : List Round) (w : World) (past : List Bool) (marks : ℕ → Mark) → isRunning (w .sender .state) ≡ false → Invariant u w past marks between
+      → Legal (u .file) w between (scheduled (u .file) w rs) [] × (run (u .file) w (scheduled (u .file) w rs) .sender ≡ w .sender)
+  unfolding scheduled run
+  ended-schedule [] w past marks over h = (stops, refl)
+  ended-schedule (r ∷ rs) w past marks over h =
+      let one = ended-round w past marks over h r in
+      let more = ended-schedule rs _ past (one .marks) (rw (one .sender) over) (one .kept) in
+      (one .legal _ (more .0), rw (run-append (u .file) w (roundCalls (u .file) w r) _) (more .1 ∙ one .sender))
+
   abbrev Schedules : List Round → Type 0
   Schedules rs = (w : World) (past : List Bool) (marks : ℕ → Mark) → Invariant u w past marks between → Realised (u .file) w rs
 
@@ -159,7 +222,9 @@ module _ (u : Upload) where
   schedule-more r rs more w past marks h = by (isRunning (w .sender .state)) refl
     where
       by : (t : Bool) → isRunning (w .sender .state) ≡ t → Realised (u .file) w (r ∷ rs)
-      by false e = record { rounds = []; later = goods (r ∷ rs); legal = rw e stops; same = refl; over = λ n. absurd (let z : _≡_ {A = ℕ} 0 1 = cc (rw (e, e) at n) in omega arith) }
+      by false e =
+          let idle = ended-schedule (r ∷ rs) w past marks e h in
+          record { rounds = []; later = goods (r ∷ rs); legal = idle .0; same = refl; over = λ n. absurd (let z : _≡_ {A = ℕ} 0 1 = cc (rw (idle .1, e) at n) in omega arith) }
       by true e =
           let runs-on = running u w past marks between e h in
           let next = round-at w past marks runs-on r in
@@ -167,9 +232,9 @@ module _ (u : Upload) where
           record {
             rounds = isGood r ∷ rest .rounds;
             later = rest .later;
-            legal = rw e (round-legal w past marks runs-on r _ (rest .rounds) (rest .legal));
+            legal = round-legal w past marks runs-on r _ (rest .rounds) (rest .legal);
             same = ap (λ (x : List Bool). isGood r ∷ x) (rest .same);
-            over = λ n. rest .over (rw (e, run-append (u .file) w (roundCalls (u .file) w r) _) at n);
+            over = λ n. rest .over (rw (run-append (u .file) w (roundCalls (u .file) w r) _) at n);
           }
 
   schedules : (rs : List Round) → Schedules rs

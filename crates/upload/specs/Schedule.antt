@@ -40,20 +40,21 @@ exchange file w Twice =
     let arrival = arrives (w .request) shared output in
     arrival ∷ arrival ∷ hears shared (does file (does file w arrival) arrival .answer) ∷ []
 
+-- The sender's request in front of it. "Finished or given up, it sends nothing more: its rounds are over."
 unfoldable pub requested : List ℕ → World → Fate → List Call
-requested file w f = asks shared output ∷ exchange file (does file w (asks shared output)) f
+requested file w f = asks shared output ∷ cond (isRunning (w .sender .state)) (exchange file (does file w (asks shared output)) f) []
 
 -- The calls of a round.
 unfoldable pub roundCalls : List ℕ → World → Round → List Call
 roundCalls file w r = cond (r .worked) (works shared ∷ requested file (does file w (works shared)) (r .fate)) (requested file w (r .fate))
 
--- The calls of rounds one after the other, until the sender ends: "its rounds are over".
+-- The calls of rounds one after the other.
 unfoldable pub scheduled : List ℕ → World → List Round → List Call
 scheduled file w [] = []
-scheduled file w (r ∷ rs) = cond (isRunning (w .sender .state)) (roundCalls file w r ++ scheduled file (run file w (roundCalls file w r)) rs) []
+scheduled file w (r ∷ rs) = roundCalls file w r ++ scheduled file (run file w (roundCalls file w r)) rs
 
--- Every sequence of rounds gives a legal list: its calls, one round after the other, with the rounds of the sequence, all of them or those
--- up to the sender's end.
+-- Every sequence of rounds gives a legal list: its calls, one round after the other. Its rounds are those of the sequence, all of them or those
+-- up to the sender's end; behind it there are work steps and sender calls alone.
 pub record Realised (file : List ℕ) (w : World) (rs : List Round) : Type 0 where
   pub rounds : List Bool
   pub later : List Bool

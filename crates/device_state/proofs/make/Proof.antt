@@ -7,11 +7,11 @@ use Rattle.device_state.proofs.make.Tie as tie
 
 returns : tie.Need-returns
 unfolding stepTold make newDevice
-returns c = (rw (eq-eqb _ _ (c .if1 .taken)), refl)
+returns c = (rw (eq-eqb _ 0 (c .if1 .taken)), refl)
 
 returns-2 : tie.Need-returns-2
 unfolding stepTold make newDevice
-returns-2 c = (rw (ne-eqb _ _ (c .if1 .left)), refl)
+returns-2 c = (rw (ne-eqb _ 0 (c .if1 .left)), refl)
 
 pub make-spec : {M : Type 1} → statement M
 make-spec = tie.close (tie.spec returns returns-2)

@@ -1,9 +1,9 @@
--- Carried by what the sender told and left in the array; one that has ended leaves everything as it is.
+-- Carried by what the sender told and left in the array; one that has ended wrote nothing, and nothing follows.
 use borrow.Author.Needs.{needs}
 use mathlib.Core.Path.{refl, sym}
 use lib.Seq.{length-take-le}
-use Rattle.rounds.proofs.Made.{ended, requested-ends, requested-stopped}
-use Rattle.rounds.proofs.Told.{nothing-ended, wrote, wrote-nothing, not-written}
+use Rattle.rounds.proofs.Made.{requested-ends, requested-ended, requested-stopped}
+use Rattle.rounds.proofs.Told.{nothing-ended, written-runs, wrote, wrote-nothing, not-written}
 use Rattle.rounds.proofs.exchange.requested.Statement.{statement}
 use Rattle.rounds.proofs.exchange.requested.Tie as tie
 
@@ -40,13 +40,13 @@ returns : tie.Need-returns
 returns c =
     let e = c .before .before .before .before .before .before .request2 .ensures in
     let g = wrote _ _ _ (e .0) _ (e .1) _ (c .before .before .before .n .given .1) .0 in
-    requested-ends _ _ _ _ _ _ _ _ g (c .sent .ensures)
+    requested-ends _ _ _ _ _ _ (written-runs _ _ _ g) _ _ g (c .sent .ensures)
 
 returns-2 : tie.Need-returns-2
 returns-2 c =
     let e = c .before .before .before .request2 .ensures in
     let g = wrote-nothing _ _ _ (e .0) (c .enum-told .given .1) in
-    requested-ends _ _ _ _ _ _ _ _ g (ended _ _ _ _ _ (nothing-ended _ _ _ _ g) (refl, refl, refl) _)
+    requested-ended _ _ _ _ _ _ (nothing-ended _ _ _ _ g) _ _ g (refl, refl, refl)
 
 returns-3 : tie.Need-returns-3
 returns-3 c =
