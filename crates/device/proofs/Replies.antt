@@ -1,23 +1,22 @@
 -- What is told of a reply, and what the output and the unit are then: of silence, and of what a writer answered.
 use Prim.Native.Nat.{ℕ}
-use mathlib.Core.Bool.{Bool, true, false, cond}
+use mathlib.Core.Bool.{Bool, cond}
 use mathlib.Core.List.{List, []}
 use mathlib.Core.Path.{_≡_, refl}
 use native.Mathlib.Omega.{arith}
-use lib.Dec.{leb}
 use lib.ListN.{length}
-use Rattle.message.specs.Answer.{Answer, refused, given, number, require, after, within, counted, laid, writeTold}
+use Rattle.message.specs.Answer.{Answer, refused, given, number, within, counted, laid, writeTold, about}
 use Rattle.message.specs.declared.Kind.{Kind}
 use Rattle.message.specs.declared.Message.{Message}
 use Rattle.message.specs.declared.Refusal.{Refusal}
 use Rattle.message.specs.declared.WriteAnswer.the-variants as WriteAnswer·of
-use Rattle.message.proofs.Answers.{long-enough}
+use Rattle.message.proofs.Answers.{long-enough, within-about}
 use Rattle.link.specs.Link.{linkRead, linkWrite}
 use Rattle.device_rules.specs.declared.Device.{Device}
 use Rattle.device_rules.specs.declared.Fault.{Fault}
 use Rattle.device_rules.specs.Commands.{afterCommand}
 use Rattle.device_rules.specs.Answers.{receiveTold, afterReceive}
-use Rattle.device_rules.specs.Receive.{Reply, answers, silent, answered, commandAnswer, commandReply, isTaken, silence, kindReply, messageReply, receive}
+use Rattle.device_rules.specs.Receive.{Reply, answers, silent, commandAnswer, commandReply, isTaken, silence, kindReply, messageReply, receive}
 use Rattle.device_rules.specs.declared.Outcome.the-variants as Outcome·of
 use Rattle.device_rules.specs.declared.Received.{Received}
 
@@ -49,39 +48,29 @@ message-reply d store b m p t e q = rw (e, q)
 
 -- A command by its fault, with the unit and the answer that it comes to.
 pub command-reply : (d : Device) (m : Message) (p : List ℕ) (f f′ : Fault) (next : Device) (answer : Message) → f′ ≡ f → next ≡ afterCommand d (m .id) p f
-    → answer ≡ commandAnswer d m f′ → commandReply d m p f ≡ answered next (linkWrite (d .link) answer [])
+    → answer ≡ commandAnswer d m f′ → commandReply d m p f ≡ about (answers next) (linkWrite (d .link) answer [])
 unfolding commandReply
 command-reply d m p f f′ next answer e done same = rw (done, same, e)
-
--- The output's 8 comes before or after the unit is told with the bytes, all the same.
-within-answered : (d : Device) (out : List ℕ) (x : Answer Unit (List ℕ)) → within out (answered d x) ≡ answered d (within out x)
-unfolding answered within after require
-within-answered d out (refused n) = refl
-within-answered d out (given u b) = by (leb (length b) (length out)) refl
-  where
-    by : (t : Bool) → leb (length b) (length out) ≡ t → within out (answered d (given u b)) ≡ answered d (within out (given u b))
-    by true q = rw q
-    by false q = rw q
 
 -- What a writer answered, told with the unit.
 module _ (d next : Device) (out out′ : List ℕ) where
   answer-told : (n : ℕ) (y : Answer Unit (List ℕ)) → given tt n ≡ counted y → out′ ≡ laid y out
-      → (given (answers next) n ≡ counted (answered next y)) × ((next ≡ afterReceive d (answered next y)) × (out′ ≡ laid (answered next y) out))
-  unfolding counted laid answered afterReceive
+      → (given (answers next) n ≡ counted (about (answers next) y)) × ((next ≡ afterReceive d (about (answers next) y)) × (out′ ≡ laid (about (answers next) y) out))
+  unfolding counted laid about afterReceive
   answer-told n (refused k) told left = absurd (let z : _≡_ {A = ℕ} 0 1 = cc in omega arith)
   answer-told n (given u b) told left = let same : n ≡ length b = cc in (rw same, (refl, left))
 
   refusal-told : (n : ℕ) (y : Answer Unit (List ℕ)) → refused n ≡ counted y → out′ ≡ laid y out
-      → (refused n ≡ counted (answered next y)) × ((d ≡ afterReceive d (answered next y)) × (out′ ≡ laid (answered next y) out))
-  unfolding counted laid answered afterReceive
+      → (refused n ≡ counted (about (answers next) y)) × ((d ≡ afterReceive d (about (answers next) y)) × (out′ ≡ laid (about (answers next) y) out))
+  unfolding counted laid about afterReceive
   refusal-told n (refused k) told left = let same : n ≡ k = cc in (rw same, (refl, left))
   refusal-told n (given u b) told left = absurd (let z : _≡_ {A = ℕ} 0 1 = cc in omega arith)
 
   module _ (x : Answer Unit (List ℕ)) (left : out′ ≡ laid (within out x) out) where
-    pub answer-gives : (n : ℕ) → writeTold (WriteAnswer·of.Length n) ≡ counted (within out x) → Gives d out (answered next x) (record { device = next; outcome = Outcome·of.Answer n }) out′
+    pub answer-gives : (n : ℕ) → writeTold (WriteAnswer·of.Length n) ≡ counted (within out x) → Gives d out (about (answers next) x) (record { device = next; outcome = Outcome·of.Answer n }) out′
     unfolding receiveTold writeTold
-    answer-gives n told = rw (within-answered next out x) (answer-told n (within out x) told left)
+    answer-gives n told = rw (within-about (answers next) out x) (answer-told n (within out x) told left)
 
-    pub refusal-gives : (r : Refusal) → writeTold (WriteAnswer·of.Refused r) ≡ counted (within out x) → Gives d out (answered next x) (record { device = d; outcome = Outcome·of.Refused r }) out′
+    pub refusal-gives : (r : Refusal) → writeTold (WriteAnswer·of.Refused r) ≡ counted (within out x) → Gives d out (about (answers next) x) (record { device = d; outcome = Outcome·of.Refused r }) out′
     unfolding receiveTold writeTold
-    refusal-gives r told = rw (within-answered next out x) (refusal-told (number r) (within out x) told left)
+    refusal-gives r told = rw (within-about (answers next) out x) (refusal-told (number r) (within out x) told left)

@@ -2,12 +2,12 @@
 ghost use mathlib.Core.Bool.{cond};
 ghost use mathlib.Core.Path.{_≡_};
 ghost use lib.ListN.{length};
-ghost use Rattle.message.specs.Answer.{within, counted, laid};
+ghost use Rattle.message.specs.Answer.{within, counted, laid, about};
 ghost use Rattle.link.specs.Link.{linkWrite};
 ghost use Rattle.device_rules.specs.Device.{isFinished};
 ghost use Rattle.device_rules.specs.Faults.{commandFault};
 ghost use Rattle.device_rules.specs.Answers.{receiveTold, afterReceive};
-ghost use Rattle.device_rules.specs.Receive.{isTaken, answerSource, answerTo, infoBytes, answered, commandAnswer, commandReply, telemetryReply, kindReply, receive};
+ghost use Rattle.device_rules.specs.Receive.{isTaken, answerSource, answerTo, infoBytes, commandAnswer, commandReply, telemetryReply, kindReply, receive, answers};
 use device_rules::Device;
 use device_rules::Fault;
 use device_rules::Outcome;
@@ -120,9 +120,9 @@ fn telemetry_reply(device: Device, message: Message, out: &mut [u8]) -> Received
 
 // Writes an answer, with the unit as it is before and after it.
 fn send(before: Device, next: Device, answer: Message, payload: &[u8], out: &mut [u8]) -> Received
-    ensures { λ r. ⌜ receiveTold (r .outcome) (r .device) ≡ counted (within (now (out .entry)) (answered next (linkWrite (before .link) answer (now (payload .entry))))) ⌝ }
-    ensures { λ r. ⌜ r .device ≡ afterReceive before (within (now (out .entry)) (answered next (linkWrite (before .link) answer (now (payload .entry))))) ⌝ }
-    ensures { λ _. ⌜ now (out .exit) ≡ laid (within (now (out .entry)) (answered next (linkWrite (before .link) answer (now (payload .entry))))) (now (out .entry)) ⌝ }
+    ensures { λ r. ⌜ receiveTold (r .outcome) (r .device) ≡ counted (within (now (out .entry)) (about (answers next) (linkWrite (before .link) answer (now (payload .entry))))) ⌝ }
+    ensures { λ r. ⌜ r .device ≡ afterReceive before (within (now (out .entry)) (about (answers next) (linkWrite (before .link) answer (now (payload .entry))))) ⌝ }
+    ensures { λ _. ⌜ now (out .exit) ≡ laid (within (now (out .entry)) (about (answers next) (linkWrite (before .link) answer (now (payload .entry))))) (now (out .entry)) ⌝ }
 {
     let link = before.link;
     match link_writer::write(link, answer, payload, out) {

@@ -23,6 +23,6 @@ unfolding frame
 frame-most d g = rw length-take (omega (arith, buffer-length d g))
 
 -- As many bytes of the buffer as the frame has are the frame.
-pub frame-taken : (d : Device) → take (length (frame d)) (d .buffer) ≡ frame d
+pub frame-of-buffer : (d : Device) → take (length (frame d)) (d .buffer) ≡ frame d
 unfolding frame
-frame-taken d = take-of-take (d .buffered) (d .buffer)
+frame-of-buffer d = take-of-take (d .buffered) (d .buffer)

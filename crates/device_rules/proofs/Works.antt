@@ -15,13 +15,13 @@ use Rattle.message.specs.declared.Verdict.{Verdict}
 use Rattle.message.specs.declared.Verdict.the-variants.{Passed, Refused}
 use Rattle.message.proofs.Answers.{long-enough}
 use Rattle.message.proofs.Checks.{both-true}
-use Rattle.device_rules.specs.Device.{frame, stepTold}
+use Rattle.device_rules.specs.Device.{frame, unitTold}
 use Rattle.device_rules.specs.Work.{frameStored, hasRoom, work, worked, afterWork, storeAfter}
 use Rattle.device_rules.specs.declared.Device.{Device}
 
 abbrev Gives : Device → List ℕ → Verdict → Device → List ℕ → Type 0
 Gives d s v d′ s′ =
-    (stepTold v d′ ≡ worked (work d (length s))) × ((d′ ≡ afterWork d (work d (length s))) × (s′ ≡ storeAfter d (work d (length s)) s))
+    (unitTold v d′ ≡ worked (work d (length s))) × ((d′ ≡ afterWork d (work d (length s))) × (s′ ≡ storeAfter d (work d (length s)) s))
 
 -- The step by its two tests.
 module _ (d : Device) (n : ℕ) where
@@ -39,11 +39,11 @@ module _ (d : Device) (n : ℕ) where
 
 module _ (d : Device) (s : List ℕ) where
   pub idle-gives : d .pending ≡ false → Gives d s Passed d s
-  unfolding stepTold worked afterWork storeAfter
+  unfolding unitTold worked afterWork storeAfter
   idle-gives h = rw (tested d (length s) false h, add-zero) (refl, (refl, sym (take-append-drop (d .stored) s)))
 
   pub short-gives : d .pending ≡ true → hasRoom d (length s) ≡ false → Gives d s (Refused OutputTooShort) d s
-  unfolding stepTold worked afterWork storeAfter
+  unfolding unitTold worked afterWork storeAfter
   short-gives h k = rw (short d (length s) h k) (refl, (refl, refl))
 
   pub room : hasRoom d (length s) ≡ true → (d .size ≤ length s) × (d .stored + length (frame d) ≤ d .size)
@@ -55,7 +55,7 @@ module _ (d : Device) (s : List ℕ) where
   -- A frame laid behind what is stored.
   pub stored-gives : (part : List ℕ) → d .pending ≡ true → hasRoom d (length s) ≡ true
       → part ≡ laid (within (drop (d .stored) s) (written (frame d))) (drop (d .stored) s) → Gives d s Passed (frameStored d) (take (d .stored) s ++ part)
-  unfolding stepTold worked afterWork storeAfter laid
+  unfolding unitTold worked afterWork storeAfter laid
   stored-gives part h k left =
       let fits : length (frame d) ≤ length (drop (d .stored) s) = rw length-drop (omega (arith, room k)) in
       rw (stores d (length s) h k, left, long-enough (drop (d .stored) s) (tt {0}) (frame d) fits, drop-drop) (refl, (refl, refl))

@@ -1,4 +1,4 @@
--- Document 01's number and values for each case of the answer to bytes that arrive, and the unit afterwards.
+-- What the code's answer to bytes that arrive says (document 01, "Forms we want to see": "this paper's number and values for each case"), and the unit afterwards.
 use Prim.Native.Nat.{ℕ}
 use mathlib.Core.List.{List}
 use Rattle.message.specs.Answer.{Answer, refused, given, number}

@@ -70,7 +70,7 @@ cancelDone d =
       stored = 0;
     }
 
--- The unit after a command without a fault.
+-- The unit after a command without a fault: 20, 21, 22, else 23, since any other ID has a fault.
 unfoldable pub commandDone : Device → ℕ → List ℕ → Device
 commandDone d id p =
     cond (eqb id 20) (setupDone d (fromBytes p))

@@ -51,7 +51,7 @@ newDevice l own =
 unfoldable pub make : Link → ℕ → Answer Device Unit
 make l own = cond (eqb own 0) (refused 7) (given (newDevice l own) tt)
 
--- Document 01's number and values for each case of the answer, of making a unit and of the work step, with the unit that is given.
-unfoldable pub stepTold : Verdict → Device → Answer Device Unit
-stepTold Verdict·of.Passed d = given d tt
-stepTold (Verdict·of.Refused r) d = refused (number r)
+-- What the code's answer says, of making a unit and of the work step (document 01, "Forms we want to see": "this paper's number and values for each case").
+unfoldable pub unitTold : Verdict → Device → Answer Device Unit
+unitTold Verdict·of.Passed d = given d tt
+unitTold (Verdict·of.Refused r) d = refused (number r)

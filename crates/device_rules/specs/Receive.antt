@@ -4,7 +4,7 @@ use mathlib.Core.Bool.{Bool, true, cond, _||_}
 use mathlib.Core.List.{List, [], _∷_, _++_}
 use lib.Dec.{eqb}
 use lib.ListN.{length}
-use Rattle.message.specs.Answer.{Answer, refused, given}
+use Rattle.message.specs.Answer.{Answer, refused, given, about}
 use Rattle.message.specs.declared.ErrorByte.the-variants.{Told}
 use Rattle.message.specs.declared.Kind.{Kind}
 use Rattle.message.specs.declared.Kind.the-variants as Kind·of
@@ -52,11 +52,6 @@ unfoldable pub infoBytes : Device → List ℕ
 infoBytes d =
     toBytes 2 (d .number) ++ (toBytes 2 (length (frame d)) ++ (toBytes 2 (checksum (frame d)) ++ (cond (isFinished (d .phase)) 1 0 ∷ [])))
 
--- The answer's bytes, with the unit as it is then.
-unfoldable pub answered : Device → Answer Unit (List ℕ) → Answer Reply (List ℕ)
-answered d (refused n) = refused n
-answered d (given u b) = given (answers d) b
-
 -- No answer: no bytes, so it is never refused.
 abbrev pub silence : Device → Answer Reply (List ℕ)
 silence d = given (silent d) []
@@ -68,14 +63,14 @@ commandAnswer d m (Nack e i) = answerTo d m Kind·of.TelecommandNack e i
 
 -- The answer to a command, with the unit as the command leaves it.
 unfoldable pub commandReply : Device → Message → List ℕ → Fault → Answer Reply (List ℕ)
-commandReply d m p f = answered (afterCommand d (m .id) p f) (linkWrite (d .link) (commandAnswer d m f) [])
+commandReply d m p f = about (answers (afterCommand d (m .id) p f)) (linkWrite (d .link) (commandAnswer d m f) [])
 
 -- "150 frame info | request | never." "Any other ID: error 1."
 unfoldable pub telemetryReply : Device → Message → Answer Reply (List ℕ)
 telemetryReply d m =
     cond (eqb (m .id) 150)
-    (answered d (linkWrite (d .link) (answerTo d m Kind·of.TelemetryResponse 0 0) (infoBytes d)))
-    (answered d (linkWrite (d .link) (answerTo d m Kind·of.TelemetryNack 1 0) []))
+    (about (answers d) (linkWrite (d .link) (answerTo d m Kind·of.TelemetryResponse 0 0) (infoBytes d)))
+    (about (answers d) (linkWrite (d .link) (answerTo d m Kind·of.TelemetryNack 1 0) []))
 
 -- "Kinds other than tc and tlmreq get no answer."
 unfoldable pub kindReply : Kind → Device → ℕ → Message → List ℕ → Answer Reply (List ℕ)

@@ -25,8 +25,8 @@ frameStored d =
       stored = d .stored + length (frame d);
     }
 
--- 8: "if a frame is pending and the store is shorter than the size". A pending frame never ends past the size; of a state in which it did
--- the frame is not stored either.
+-- 8: "if a frame is pending and the store is shorter than the size". No call leaves a pending frame that ends past the size; in such a state it
+-- is 8 too, so that no byte past the size is written.
 unfoldable pub hasRoom : Device → ℕ → Bool
 hasRoom d store = leb (d .size) store && leb (d .stored + length (frame d)) (d .size)
 

@@ -7,12 +7,14 @@ use link::Link;
 use message::Refusal;
 use message::Verdict;
 
+// Document 01's "idle, open or finished".
 pub enum Phase {
     Idle,
     Open,
     Finished,
 }
 
+// Document 01's unit. It is called a device, since `Unit` is a type of the logic.
 pub struct Device {
     pub link: Link,
     // The unit's own address.
@@ -32,7 +34,7 @@ pub struct Device {
 }
 
 // The answer of making a unit and of the work step. A refused work step leaves unit and store as they came.
-pub struct Stepped {
+pub struct UnitAnswer {
     pub device: Device,
     pub verdict: Verdict,
 }

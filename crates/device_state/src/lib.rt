@@ -1,10 +1,10 @@
 // A unit at first, and the frame that its buffer holds.
 ghost use mathlib.Core.Path.{_≡_};
 ghost use lib.ListN.{length};
-ghost use Rattle.device_rules.specs.Device.{frame, newDevice, make, stepTold};
+ghost use Rattle.device_rules.specs.Device.{frame, newDevice, make, unitTold};
 use device_rules::Device;
 use device_rules::Phase;
-use device_rules::Stepped;
+use device_rules::UnitAnswer;
 use link::Link;
 use message::Refusal;
 use message::Verdict;
@@ -21,8 +21,8 @@ pub fn frame_length(device: Device) -> usize
 }
 
 // A unit at first, with its own address. Where that is 0 it is refused, and the unit beside the refusal is of no use.
-pub fn make(link: Link, own: u8) -> Stepped
-    ensures { λ r. ⌜ stepTold (r .verdict) (r .device) ≡ make link own ⌝ }
+pub fn make(link: Link, own: u8) -> UnitAnswer
+    ensures { λ r. ⌜ unitTold (r .verdict) (r .device) ≡ make link own ⌝ }
     ensures { λ r. ⌜ r .device ≡ newDevice link own ⌝ }
 {
     let device = Device {
@@ -37,12 +37,12 @@ pub fn make(link: Link, own: u8) -> Stepped
         stored: 0,
     };
     if own == 0 {
-        return Stepped {
+        return UnitAnswer {
             device,
             verdict: Verdict::Refused(Refusal::IllegalValue),
         };
     }
-    Stepped {
+    UnitAnswer {
         device,
         verdict: Verdict::Passed,
     }

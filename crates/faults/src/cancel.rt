@@ -1,4 +1,4 @@
-// Cancel: only a payload is in its way.
+// Cancel: its only fault is a payload.
 ghost use mathlib.Core.Path.{_≡_};
 ghost use Rattle.device_rules.specs.Faults.{cancelFault};
 use crate::Fault;

@@ -1,4 +1,4 @@
-// Frame: what keeps bytes out of the buffer.
+// Frame: its faults.
 ghost use mathlib.Core.Path.{_≡_};
 ghost use Rattle.device_rules.specs.Faults.{frameFault};
 use crate::is_open;

@@ -1,4 +1,4 @@
-// Setup: what keeps a unit from being opened for a file.
+// Setup: its faults.
 ghost use mathlib.Core.Path.{_≡_};
 ghost use Rattle.device_rules.specs.Faults.{setupFault};
 use crate::is_open;

@@ -2,11 +2,8 @@
 ghost use mathlib.Core.Path.{_≡_};
 ghost use Rattle.file.specs.File.{sizeLegal, frameCount, fileFrame};
 
-// The bytes of a frame, of which the last may have fewer.
-pub const FRAME: usize = 256;
-
 // The most bytes of a file: 65,535 frames.
-pub const LONGEST: usize = 16_776_960;
+const LONGEST: usize = 16_776_960;
 
 pub fn size_legal(size: usize) -> bool
     ensures { λ r. ⌜ r ≡ sizeLegal size ⌝ }

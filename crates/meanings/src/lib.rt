@@ -14,7 +14,7 @@ use upload::Meaning;
 use upload::Sender;
 use upload::Stage;
 
-// Of a message that was read as the answer.
+// What a message that was read as the answer means.
 pub fn message_meaning(sender: Sender, file: &[u8], message: Message, payload: &[u8]) -> Meaning
     ensures { λ r. ⌜ r ≡ meaning sender (now (file .entry)) (given message (now (payload .entry))) ⌝ }
 {

@@ -12,7 +12,7 @@ use lib.Seq.{drop-cons, take-suc, append-snoc, set-at, length-take-le, take-leng
 use Rattle.message.specs.declared.Refusal.{Refusal}
 use Rattle.message.specs.declared.WriteAnswer.{WriteAnswer}
 use Rattle.message.specs.declared.WriteAnswer.the-variants.{Refused, Length}
-use Rattle.message.specs.Answer.{Check, passed, failed, number, writeTold, written, Answer, refused, given, require, after, within, counted, laid}
+use Rattle.message.specs.Answer.{Check, passed, failed, number, writeTold, written, Answer, refused, given, require, after, within, counted, laid, about}
 
 module _ {A : Type 0} (out : List ℕ) (a : A) (b : List ℕ) where
   pub too-short : length out < length b → within out (given a b) ≡ refused 8
@@ -92,6 +92,33 @@ pub after-passed : {A : Type 0} (c : Check) (x : Answer A (List ℕ)) (a : A) (b
 unfolding after
 after-passed passed x a b e = (refl, e)
 after-passed (failed n) x a b e = absurd (let z : _≡_ {A = ℕ} 0 1 = cc in omega arith)
+
+-- An answer about something else has the same 8, the same count and the same bytes.
+module _ {A A′ : Type 0} (a : A′) (out : List ℕ) where
+  pub within-about : (x : Answer A (List ℕ)) → within out (about a x) ≡ about a (within out x)
+  unfolding about within after require
+  within-about (refused n) = refl
+  within-about (given a′ b) = by (leb (length b) (length out)) refl
+    where
+      by : (t : Bool) → leb (length b) (length out) ≡ t → within out (about a (given a′ b)) ≡ about a (within out (given a′ b))
+      by true q = rw q
+      by false q = rw q
+
+  counted-about : (x : Answer A (List ℕ)) → counted (about a x) ≡ about a (counted x)
+  unfolding about counted
+  counted-about (refused n) = refl
+  counted-about (given a′ b) = refl
+
+  laid-about : (x : Answer A (List ℕ)) → laid (about a x) out ≡ laid x out
+  unfolding about laid
+  laid-about (refused n) = refl
+  laid-about (given a′ b) = refl
+
+  pub about-told : (x : Answer A (List ℕ)) → counted (within out (about a x)) ≡ about a (counted (within out x))
+  about-told x = rw (within-about x) (counted-about (within out x))
+
+  pub about-laid : (x : Answer A (List ℕ)) → laid (within out (about a x)) out ≡ laid (within out x) out
+  about-laid x = rw (within-about x) (laid-about (within out x))
 
 -- A turn of a loop that copies `bytes` over the start of `out`.
 pub copy-step : (bytes out : List ℕ) (i : ℕ) → i < length bytes → i < length out → set (take i bytes ++ drop i out) i (getD bytes i 0) ≡ take (i + 1) bytes ++ drop (i + 1) out

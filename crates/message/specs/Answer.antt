@@ -66,6 +66,11 @@ module _ {A : Type 0} where
   laid (refused n) out = out
   laid (given a b) out = b ++ drop (length b) out
 
+-- The same answer about something else: its refusal, or its bytes, stay.
+unfoldable pub about : {A A′ B : Type 0} → A′ → Answer A B → Answer A′ B
+about a (refused n) = refused n
+about a (given a′ b) = given a b
+
 -- A writer's answer has no value beside its bytes.
 abbrev pub written : List ℕ → Answer Unit (List ℕ)
 written b = given tt b

@@ -15,8 +15,8 @@ use crate::unit::worked;
 use device::Outcome;
 use message::Refusal;
 use message::Verdict;
-use upload::HearAnswer;
 use upload::RequestAnswer;
+use upload::SenderAnswer;
 
 // round WORK FATE
 pub(crate) fn round(call: Call, kept: Kept) -> Kept {
@@ -110,8 +110,8 @@ fn length(received: Arrival) -> usize {
 fn hear(fate: usize, request: &[u8], early: &[u8], late: &[u8], last: Arrival) -> Kept {
     let kept = last.kept;
     match answer(fate, late, last) {
-        HearAnswer::Refused(refusal) => stopped(refusal, kept),
-        HearAnswer::Sender(next) => {
+        SenderAnswer::Refused(refusal) => stopped(refusal, kept),
+        SenderAnswer::Sender(next) => {
             print::bytes(request);
             print_answers(fate, early, late);
             over(with_sender(kept, next))
@@ -120,13 +120,13 @@ fn hear(fate: usize, request: &[u8], early: &[u8], late: &[u8], last: Arrival) -
 }
 
 // The sender's answer call, unless an arrival was refused.
-fn answer(fate: usize, late: &[u8], last: Arrival) -> HearAnswer {
+fn answer(fate: usize, late: &[u8], last: Arrival) -> SenderAnswer {
     let kept = last.kept;
     let outcome = last.outcome;
     match outcome {
         Outcome::Answer(_) => heard(kept, delivered(fate, late)),
         Outcome::Silent => heard(kept, late),
-        Outcome::Refused(refusal) => HearAnswer::Refused(refusal),
+        Outcome::Refused(refusal) => SenderAnswer::Refused(refusal),
     }
 }
 

@@ -6,9 +6,8 @@ use crate::input::output;
 use crate::keep::Kept;
 use crate::keep::with_sender;
 use crate::print;
-use upload::HearAnswer;
 use upload::RequestAnswer;
-use upload::StartAnswer;
+use upload::SenderAnswer;
 
 pub(crate) fn make(call: Call, bytes: &[u8], kept: Kept) -> Kept {
     match call[0] {
@@ -36,18 +35,18 @@ fn keep(call: Call, bytes: &[u8], kept: Kept) -> Kept {
 // sender LINK SOURCE DESTINATION LENGTH
 fn start(call: Call, kept: Kept) -> Kept {
     match started(call) {
-        StartAnswer::Refused(refusal) => {
+        SenderAnswer::Refused(refusal) => {
             print::refused_line(refusal);
             kept
         }
-        StartAnswer::Sender(next) => {
+        SenderAnswer::Sender(next) => {
             print::ok_line();
             with_sender(kept, next)
         }
     }
 }
 
-fn started(call: Call) -> StartAnswer {
+fn started(call: Call) -> SenderAnswer {
     let length = (call[4] % 0x1_0000_0000) as u32;
     sender::start(
         call::link(call[1]),
@@ -92,11 +91,11 @@ fn answer(call: Call, bytes: &[u8], kept: Kept) -> Kept {
         return kept;
     }
     match heard(kept, front(bytes, call[1])) {
-        HearAnswer::Refused(refusal) => {
+        SenderAnswer::Refused(refusal) => {
             print::refused(refusal);
             answered(kept)
         }
-        HearAnswer::Sender(next) => {
+        SenderAnswer::Sender(next) => {
             print::text(b"ok");
             answered(with_sender(kept, next))
         }
@@ -104,7 +103,7 @@ fn answer(call: Call, bytes: &[u8], kept: Kept) -> Kept {
 }
 
 // The sender's answer call, with the file as it is kept.
-pub(crate) fn heard(kept: Kept, bytes: &[u8]) -> HearAnswer {
+pub(crate) fn heard(kept: Kept, bytes: &[u8]) -> SenderAnswer {
     let sender = kept.sender;
     let file = kept.file;
     sender::hear(sender, front(&file, kept.file_length), bytes)

@@ -9,7 +9,7 @@ use crate::keep::with_store;
 use crate::keep::with_unit;
 use crate::print;
 use device::Outcome;
-use device::Stepped;
+use device::UnitAnswer;
 use message::Verdict;
 
 // What is kept after bytes have arrived at the unit, and what came of them.
@@ -59,7 +59,7 @@ fn new(call: Call, kept: Kept) -> Kept {
     }
 }
 
-fn made(call: Call) -> Stepped {
+fn made(call: Call) -> UnitAnswer {
     device::make(call::link(call[1]), call::byte(call[2]))
 }
 

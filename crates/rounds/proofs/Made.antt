@@ -13,10 +13,10 @@ use Rattle.device_rules.specs.Receive.{Reply, receive}
 use Rattle.device_rules.specs.Work.{work, storeAfter, afterWork}
 use Rattle.device_rules.specs.declared.Device.{Device}
 use Rattle.upload.specs.Round.{hear}
-use Rattle.runs.specs.Rounds.{atRest, answerCheck, callCheck, choose, made, firstRefusal}
+use Rattle.runs.specs.Rounds.{nothingSent, choose, made, firstRefusal}
 use Rattle.upload.specs.Schedule.{output, exchange, requested, roundCalls}
-use Rattle.upload.specs.Sender.{Asked, isRunning, request}
-use Rattle.upload.specs.World.{World, shared, lent, kept, Call, works, asks, arrives, hears, bytesOr, senderOr, does}
+use Rattle.upload.specs.Sender.{Sent, isRunning, request}
+use Rattle.upload.specs.World.{World, shared, lent, kept, Call, works, asks, arrives, hears, bytesOr, senderOr, does, answerCheck, callCheck}
 use Rattle.upload.specs.declared.Fate.{Fate}
 use Rattle.upload.specs.declared.Fate.the-variants.{Delivered, AnswerLost, Twice}
 use Rattle.upload.specs.declared.Round.{Round}
@@ -109,34 +109,34 @@ twice-ends r d store s file rq a x e next n k = goes-on r store file (asking d s
 
 -- The sender's request in front of the exchange.
 module _ (r : Rounded) (d : Device) (store : List ℕ) (s : Sender) (file : List ℕ) (f : Fate) where
-  pub requested-ends : isRunning (s .state) ≡ true → (a : Asked) (x : List ℕ) → within output (request s file) ≡ given a x
-      → Ends r store file (asking d store s x) (exchange file (asking d store s x) f) → Ends r store file (atRest d store s) (requested file (atRest d store s) f)
+  pub requested-ends : isRunning (s .state) ≡ true → (a : Sent) (x : List ℕ) → within output (request s file) ≡ given a x
+      → Ends r store file (asking d store s x) (exchange file (asking d store s x) f) → Ends r store file (nothingSent d store s) (requested file (nothingSent d store s) f)
   unfolding requested callCheck answerCheck does lent bytesOr
-  requested-ends on a x e k = rw on (goes-on r store file (atRest d store s) (asks shared output) _ (rw e) (rw e k))
+  requested-ends on a x e k = rw on (goes-on r store file (nothingSent d store s) (asks shared output) _ (rw e) (rw e k))
 
   -- A sender that has ended writes none, and nothing follows.
-  pub requested-ended : isRunning (s .state) ≡ false → (a : Asked) (x : List ℕ) → within output (request s file) ≡ given a x
-      → (r .device ≡ d) × (r .sender ≡ s) × (r .verdict ≡ Passed) → Ends r store file (atRest d store s) (requested file (atRest d store s) f)
+  pub requested-ended : isRunning (s .state) ≡ false → (a : Sent) (x : List ℕ) → within output (request s file) ≡ given a x
+      → (r .device ≡ d) × (r .sender ≡ s) × (r .verdict ≡ Passed) → Ends r store file (nothingSent d store s) (requested file (nothingSent d store s) f)
   unfolding requested callCheck answerCheck does lent made firstRefusal verdictTold
-  requested-ended over a x e k = rw over (goes-on r store file (atRest d store s) (asks shared output) [] (rw e) (rw (k .2) (refl, k .0, k .1, refl)))
+  requested-ended over a x e k = rw over (goes-on r store file (nothingSent d store s) (asks shared output) [] (rw e) (rw (k .2) (refl, k .0, k .1, refl)))
 
-  pub requested-stopped : (g : Refusal) → within output (request s file) ≡ refused (number g) → Stopped r d s g → Ends r store file (atRest d store s) (requested file (atRest d store s) f)
+  pub requested-stopped : (g : Refusal) → within output (request s file) ≡ refused (number g) → Stopped r d s g → Ends r store file (nothingSent d store s) (requested file (nothingSent d store s) f)
   unfolding requested callCheck answerCheck lent
-  requested-stopped g e k = ends-here r store file (atRest d store s) (asks shared output) _ g (rw e) k refl
+  requested-stopped g e k = ends-here r store file (nothingSent d store s) (asks shared output) _ g (rw e) k refl
 
 -- The work step in front of the request.
 module _ (r : Rounded) (d : Device) (store : List ℕ) (s : Sender) (file : List ℕ) (f : Fate) (left : List ℕ) (left-is : left ≡ storeAfter d (work d (length store)) store) where
   abbrev calls : List Call
-  calls = works shared ∷ requested file (does file (atRest d store s) (works shared)) f
+  calls = works shared ∷ requested file (does file (nothingSent d store s) (works shared)) f
 
   pub worked-ends : answerCheck (work d (length store)) ≡ passed → (next : Device) → next ≡ afterWork d (work d (length store))
-      → Ends r left file (atRest next left s) (requested file (atRest next left s) f) → Ends r left file (atRest d store s) calls
+      → Ends r left file (nothingSent next left s) (requested file (nothingSent next left s) f) → Ends r left file (nothingSent d store s) calls
   unfolding callCheck does lent kept
-  worked-ends e next n k = rw left-is (goes-on r _ file (atRest d store s) (works shared) _ e (rw (n, left-is) at k))
+  worked-ends e next n k = rw left-is (goes-on r _ file (nothingSent d store s) (works shared) _ e (rw (n, left-is) at k))
 
-  pub worked-stopped : (g : Refusal) → work d (length store) ≡ refused (number g) → Stopped r (afterWork d (work d (length store))) s g → Ends r left file (atRest d store s) calls
+  pub worked-stopped : (g : Refusal) → work d (length store) ≡ refused (number g) → Stopped r (afterWork d (work d (length store))) s g → Ends r left file (nothingSent d store s) calls
   unfolding callCheck answerCheck lent storeAfter afterWork
-  worked-stopped g e k = ends-here r left file (atRest d store s) (works shared) _ g (rw e) (rw e at k) (left-is ∙ rw e)
+  worked-stopped g e k = ends-here r left file (nothingSent d store s) (works shared) _ g (rw e) (rw e at k) (left-is ∙ rw e)
 
 -- A round by its work step.
 module _ (r : Rounded) (store file : List ℕ) (w : World) (round : Round) where

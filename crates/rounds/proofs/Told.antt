@@ -7,27 +7,27 @@ use native.Mathlib.Omega.{arith}
 use lib.Dec.{leb}
 use lib.ListN.{length, take}
 use Rattle.message.proofs.Answers.{counted-refused, counted-given, counted-empty}
-use Rattle.message.specs.Answer.{Answer, Check, refused, given, number, passed, failed, require, after, within, counted, laid}
+use Rattle.message.specs.Answer.{Answer, Check, refused, given, number, passed, failed, require, after, within, counted, laid, about}
 use Rattle.message.specs.declared.Refusal.{Refusal}
 use Rattle.message.specs.declared.Verdict.{Verdict}
 use Rattle.message.specs.declared.Verdict.the-variants as Verdict·of
-use Rattle.device_rules.specs.Device.{stepTold}
+use Rattle.device_rules.specs.Device.{unitTold}
 use Rattle.device_rules.specs.Answers.{receiveTold}
 use Rattle.device_rules.specs.Receive.{answers, silent, receive}
 use Rattle.device_rules.specs.Work.{worked}
 use Rattle.device_rules.specs.declared.Device.{Device}
 use Rattle.device_rules.specs.declared.Outcome.{Outcome}
 use Rattle.device_rules.specs.declared.Outcome.the-variants as Outcome·of
-use Rattle.runs.specs.Rounds.{answerCheck}
 use Rattle.upload.specs.Schedule.{output}
-use Rattle.upload.specs.Sender.{asks, nothing, asked, isRunning, request, requestTold}
+use Rattle.upload.specs.World.{answerCheck}
+use Rattle.upload.specs.Sender.{sent, nothing, isRunning, request, requestTold}
 use Rattle.upload.specs.declared.RequestAnswer.{RequestAnswer}
 use Rattle.upload.specs.declared.RequestAnswer.the-variants as RequestAnswer·of
 use Rattle.upload.specs.declared.Sender.{Sender}
 
 -- A sender that has nothing to send has ended.
-asked-something : (c : Check) (x : Answer Unit (List ℕ)) (out b : List ℕ) → within out (after c (asked x)) ≡ given nothing b → ⊥
-unfolding within after asked require
+asked-something : (c : Check) (x : Answer Unit (List ℕ)) (out b : List ℕ) → within out (after c (about sent x)) ≡ given nothing b → ⊥
+unfolding within after about require
 asked-something (failed n) x out b e = let z : _≡_ {A = ℕ} 0 1 = cc in omega arith
 asked-something passed (refused n) out b e = let z : _≡_ {A = ℕ} 0 1 = cc in omega arith
 asked-something passed (given u y) out b e = by (leb (length y) (length out)) refl
@@ -45,7 +45,7 @@ nothing-ended s file out b e = by (isRunning (s .state)) refl
     by false q = q
 
 -- One that has written a request runs.
-pub written-runs : (s : Sender) (file b : List ℕ) → within output (request s file) ≡ given asks b → isRunning (s .state) ≡ true
+pub written-runs : (s : Sender) (file b : List ℕ) → within output (request s file) ≡ given sent b → isRunning (s .state) ≡ true
 unfolding request within after require
 written-runs s file b e = by (isRunning (s .state)) refl
   where
@@ -71,9 +71,9 @@ module _ (d : Device) (n : ℕ) (rq : List ℕ) (o : Outcome) (next : Device) (t
 -- What the sender wrote.
 module _ (s : Sender) (file : List ℕ) (o : RequestAnswer) (told : requestTold o ≡ counted (within output (request s file))) where
   pub wrote : (left : List ℕ) → left ≡ laid (within output (request s file)) output → (k : ℕ) → o ≡ RequestAnswer·of.Request k
-      → (within output (request s file) ≡ given asks (take k left)) × (k ≤ length left)
+      → (within output (request s file) ≡ given sent (take k left)) × (k ≤ length left)
   unfolding requestTold
-  wrote left lies k e = counted-given _ output left lies asks k (rw e at (sym told))
+  wrote left lies k e = counted-given _ output left lies sent k (rw e at (sym told))
 
   pub wrote-nothing : o ≡ RequestAnswer·of.Nothing → within output (request s file) ≡ given nothing []
   unfolding requestTold
@@ -84,9 +84,9 @@ module _ (s : Sender) (file : List ℕ) (o : RequestAnswer) (told : requestTold 
   not-written f e = counted-refused _ (number f) (rw e at (sym told))
 
 -- What a work step told.
-module _ (x : Answer Device (List ℕ)) (v : Verdict) (next : Device) (told : stepTold v next ≡ worked x) where
+module _ (x : Answer Device (List ℕ)) (v : Verdict) (next : Device) (told : unitTold v next ≡ worked x) where
   pub stepped : v ≡ Verdict·of.Passed → answerCheck x ≡ passed
-  unfolding stepTold worked answerCheck
+  unfolding unitTold worked answerCheck
   stepped e = by x refl
     where
       by : (y : Answer Device (List ℕ)) → x ≡ y → answerCheck x ≡ passed
@@ -94,7 +94,7 @@ module _ (x : Answer Device (List ℕ)) (v : Verdict) (next : Device) (told : st
       by (given a b) q = rw q
 
   pub not-stepped : (f : Refusal) → v ≡ Verdict·of.Refused f → x ≡ refused (number f)
-  unfolding stepTold worked
+  unfolding unitTold worked
   not-stepped f e = by x refl
     where
       by : (y : Answer Device (List ℕ)) → x ≡ y → x ≡ refused (number f)

@@ -5,9 +5,9 @@ ghost use Rattle.message.specs.Answer.{verdictTold, within, counted};
 ghost use Rattle.device_rules.specs.Answers.{receiveTold, afterReceive};
 ghost use Rattle.device_rules.specs.Receive.{receive};
 ghost use Rattle.upload.specs.Round.{hear};
-ghost use Rattle.runs.specs.Rounds.{atRest, answerCheck};
+ghost use Rattle.runs.specs.Rounds.{nothingSent};
 ghost use Rattle.upload.specs.Schedule.{output, exchange, requested};
-ghost use Rattle.upload.specs.World.{senderOr};
+ghost use Rattle.upload.specs.World.{senderOr, answerCheck};
 ghost use Rattle.rounds.specs.Ends.{asking, Ends};
 use crate::Rounded;
 use crate::stopped;
@@ -16,9 +16,9 @@ use device::Outcome;
 use device::Received;
 use message::Verdict;
 use upload::Fate;
-use upload::HearAnswer;
 use upload::RequestAnswer;
 use upload::Sender;
+use upload::SenderAnswer;
 
 // The sender's request, and what becomes of it. A sender that has ended sends none, and the round is over.
 pub(crate) fn requested(
@@ -28,7 +28,7 @@ pub(crate) fn requested(
     file: &[u8],
     store: &[u8],
 ) -> Rounded
-    ensures { λ r. ⌜ Ends r (now (store .entry)) (now (file .entry)) (atRest device (now (store .entry)) sender) (requested (now (file .entry)) (atRest device (now (store .entry)) sender) fate) ⌝ }
+    ensures { λ r. ⌜ Ends r (now (store .entry)) (now (file .entry)) (nothingSent device (now (store .entry)) sender) (requested (now (file .entry)) (nothingSent device (now (store .entry)) sender) fate) ⌝ }
 {
     let mut request = [0u8; 522];
     match sender::request(sender, file, &mut request) {
@@ -118,11 +118,11 @@ fn heard(device: Device, sender: Sender, file: &[u8], answer: &[u8]) -> Rounded
     ensures { λ r. ⌜ (verdictTold (r .verdict) ≡ answerCheck (hear sender (now (file .entry)) (now (answer .entry)))) × (r .device ≡ device) × (r .sender ≡ senderOr sender (hear sender (now (file .entry)) (now (answer .entry)))) ⌝ }
 {
     match sender::hear(sender, file, answer) {
-        HearAnswer::Sender(next) => Rounded {
+        SenderAnswer::Sender(next) => Rounded {
             device,
             sender: next,
             verdict: Verdict::Passed,
         },
-        HearAnswer::Refused(refusal) => stopped(device, sender, refusal),
+        SenderAnswer::Refused(refusal) => stopped(device, sender, refusal),
     }
 }

@@ -6,7 +6,7 @@ mod exchange;
 
 ghost use mathlib.Core.Path.{_≡_};
 ghost use Rattle.message.specs.Answer.{verdictTold};
-ghost use Rattle.runs.specs.Rounds.{atRest, roundMade, roundRefusal};
+ghost use Rattle.runs.specs.Rounds.{nothingSent, roundMade, roundRefusal};
 use device::Device;
 use message::Refusal;
 use message::Verdict;
@@ -23,10 +23,10 @@ pub struct Rounded {
 
 // Runs a round with the unit's store and the sender's file.
 pub fn round(device: Device, sender: Sender, round: Round, file: &[u8], store: &mut [u8]) -> Rounded
-    ensures { λ r. ⌜ verdictTold (r .verdict) ≡ roundRefusal (now (file .entry)) (atRest device (now (store .entry)) sender) round ⌝ }
-    ensures { λ r. ⌜ r .device ≡ roundMade (now (file .entry)) (atRest device (now (store .entry)) sender) round .device ⌝ }
-    ensures { λ r. ⌜ r .sender ≡ roundMade (now (file .entry)) (atRest device (now (store .entry)) sender) round .sender ⌝ }
-    ensures { λ _. ⌜ now (store .exit) ≡ roundMade (now (file .entry)) (atRest device (now (store .entry)) sender) round .store ⌝ }
+    ensures { λ r. ⌜ verdictTold (r .verdict) ≡ roundRefusal (now (file .entry)) (nothingSent device (now (store .entry)) sender) round ⌝ }
+    ensures { λ r. ⌜ r .device ≡ roundMade (now (file .entry)) (nothingSent device (now (store .entry)) sender) round .device ⌝ }
+    ensures { λ r. ⌜ r .sender ≡ roundMade (now (file .entry)) (nothingSent device (now (store .entry)) sender) round .sender ⌝ }
+    ensures { λ _. ⌜ now (store .exit) ≡ roundMade (now (file .entry)) (nothingSent device (now (store .entry)) sender) round .store ⌝ }
 {
     let fate = round.fate;
     if !round.worked {

@@ -4,14 +4,14 @@ use mathlib.Core.Bool.{Bool, true, false}
 use mathlib.Core.List.{List, [], _∷_}
 use mathlib.Core.Path.{_≡_, refl, ap, _∙_}
 use native.Mathlib.Omega.{arith}
-use Rattle.message.specs.Answer.{Answer, refused, given, passed}
+use Rattle.message.specs.Answer.{Answer, Check, refused, given, passed, failed}
 use Rattle.device_rules.specs.declared.Device.{Device}
 use Rattle.upload.specs.Legal.{begun, asked, arrived, repeated, between}
-use Rattle.runs.specs.Rounds.{atRest, answerCheck, callCheck, choose, made, firstRefusal, roundMade, roundRefusal, roundsMade, roundsRefusal, Same, EveryRun}
+use Rattle.runs.specs.Rounds.{nothingSent, choose, made, firstRefusal, roundMade, roundRefusal, roundsMade, roundsRefusal, Same, EveryRun}
 use Rattle.upload.specs.Schedule.{output, exchange, requested, roundCalls, scheduled}
 use Rattle.upload.specs.Sender.{isRunning}
 use Rattle.upload.specs.Stored.{Mark, waiting}
-use Rattle.upload.specs.World.{World, shared, Call, works, asks, arrives, hears, bytesOr, does, run, isRefusal, isRefused}
+use Rattle.upload.specs.World.{World, shared, Call, works, asks, arrives, hears, bytesOr, does, run, isRefused, answerCheck, isFailed, callCheck}
 use Rattle.upload.specs.declared.Fate.{Fate}
 use Rattle.upload.specs.declared.Fate.the-variants.{Delivered, RequestLost, AnswerLost, Twice}
 use Rattle.upload.specs.declared.Round.{Round}
@@ -26,14 +26,13 @@ Unrefused : List ℕ → World → List Call → Type 0
 Unrefused file w [] = Unit
 Unrefused file w (c ∷ h) = (isRefused file w c ≡ false) × Unrefused file (does file w c) h
 
-module _ {A B : Type 0} where
-  passes : (x : Answer A B) → isRefusal x ≡ false → answerCheck x ≡ passed
-  unfolding isRefusal answerCheck
-  passes (refused n) e = absurd (let z : _≡_ {A = ℕ} 0 1 = cc in omega arith)
-  passes (given a b) e = refl
+passes : (x : Check) → isFailed x ≡ false → x ≡ passed
+unfolding isFailed
+passes passed e = refl
+passes (failed n) e = absurd (let z : _≡_ {A = ℕ} 0 1 = cc in omega arith)
 
-same-bytes : {A : Type 0} (x : Answer A (List ℕ)) (b b′ : List ℕ) → isRefusal x ≡ false → bytesOr b x ≡ bytesOr b′ x
-unfolding isRefusal bytesOr
+same-bytes : {A : Type 0} (x : Answer A (List ℕ)) (b b′ : List ℕ) → isFailed (answerCheck x) ≡ false → bytesOr b x ≡ bytesOr b′ x
+unfolding isFailed answerCheck bytesOr
 same-bytes (refused n) b b′ e = absurd (let z : _≡_ {A = ℕ} 0 1 = cc in omega arith)
 same-bytes (given a y) b b′ e = refl
 
@@ -54,7 +53,7 @@ module _ (file : List ℕ) where
   -- The calls of an exchange, and of a round, are the same whatever was under way.
   same-exchange : (f : Fate) (d : Device) (store : List ℕ) (s : Sender) (rq an an′ : List ℕ) → Unrefused file (worldOf d store s rq an′) (exchange file (worldOf d store s rq an′) f)
       → exchange file (worldOf d store s rq an) f ≡ exchange file (worldOf d store s rq an′) f
-  unfolding exchange does isRefused Unrefused
+  unfolding exchange does isRefused callCheck Unrefused
   same-exchange Delivered d store s rq an an′ u = ap (λ (b : List ℕ). arrives rq shared output ∷ hears shared b ∷ []) (same-bytes _ an an′ (u .0))
   same-exchange RequestLost d store s rq an an′ u = refl
   same-exchange AnswerLost d store s rq an an′ u = refl
@@ -62,7 +61,7 @@ module _ (file : List ℕ) where
 
   same-requested : (f : Fate) (d : Device) (store : List ℕ) (s : Sender) (rq an rq′ an′ : List ℕ) → Unrefused file (worldOf d store s rq′ an′) (requested file (worldOf d store s rq′ an′) f)
       → requested file (worldOf d store s rq an) f ≡ requested file (worldOf d store s rq′ an′) f
-  unfolding requested does isRefused Unrefused
+  unfolding requested does isRefused callCheck Unrefused
   same-requested f d store s rq an rq′ an′ u = by (isRunning (s .state)) refl
     where
       by : (t : Bool) → isRunning (s .state) ≡ t → requested file (worldOf d store s rq an) f ≡ requested file (worldOf d store s rq′ an′) f
@@ -83,7 +82,7 @@ module _ (file : List ℕ) where
 
   -- A round from rest makes what the schedule's calls make.
   round-same : (r : Round) (w : World) → Unrefused file w (roundCalls file w r)
-      → (roundRefusal file (atRest (w .device) (w .store) (w .sender)) r ≡ passed) × Same (roundMade file (atRest (w .device) (w .store) (w .sender)) r) (run file w (roundCalls file w r))
+      → (roundRefusal file (nothingSent (w .device) (w .store) (w .sender)) r ≡ passed) × Same (roundMade file (nothingSent (w .device) (w .store) (w .sender)) r) (run file w (roundCalls file w r))
   unfolding roundRefusal roundMade
   round-same r w u =
       rw (same-round r (w .device) (w .store) (w .sender) [] [] (w .request) (w .answer) u)
@@ -153,7 +152,7 @@ module _ (u : Upload) where
   unfolding roundsRefusal roundsMade scheduled choose run
   runs-more r rs more v w past marks s h =
       let next = next-round r w past marks h in
-      let from-rest : World = atRest (v .device) (v .store) (v .sender) in
+      let from-rest : World = nothingSent (v .device) (v .store) (v .sender) in
       let same : (roundRefusal (u .file) from-rest r ≡ passed) × Same (roundMade (u .file) from-rest r) (run (u .file) w (roundCalls (u .file) w r)) =
       rw (s .device, s .store, s .sender) (round-same (u .file) r w (next .0)) in
       let rest = more _ _ (next .1 .0) (next .1 .1 .0) (same .1) (next .1 .1 .1) in

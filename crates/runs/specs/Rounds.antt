@@ -3,28 +3,17 @@
 use Prim.Native.Nat.{ℕ}
 use mathlib.Core.List.{List, [], _∷_}
 use mathlib.Core.Path.{_≡_}
-use Rattle.message.specs.Answer.{Answer, Check, refused, given, passed, failed}
+use Rattle.message.specs.Answer.{Check, passed, failed}
 use Rattle.device_rules.specs.declared.Device.{Device}
 use Rattle.upload.specs.Demand.{Start}
 use Rattle.upload.specs.Schedule.{roundCalls, scheduled}
-use Rattle.upload.specs.World.{World, Call, works, asks, arrives, hears, workAnswer, askAnswer, arriveAnswer, hearAnswer, does, run}
+use Rattle.upload.specs.World.{World, Call, callCheck, does, run}
 use Rattle.upload.specs.declared.Round.{Round}
 use Rattle.upload.specs.declared.Sender.{Sender}
 
 -- Unit, store and sender with nothing under way between them.
-abbrev pub atRest : Device → List ℕ → Sender → World
-atRest d store s = record { device = d; store = store; sender = s; request = []; answer = [] }
-
--- A call's refusal, if it is refused.
-unfoldable pub answerCheck : {A B : Type 0} → Answer A B → Check
-answerCheck (refused n) = failed n
-answerCheck (given a b) = passed
-
-unfoldable pub callCheck : List ℕ → World → Call → Check
-callCheck file w (works l) = answerCheck (workAnswer w l)
-callCheck file w (asks l out) = answerCheck (askAnswer file w l out)
-callCheck file w (arrives b l out) = answerCheck (arriveAnswer w b l out)
-callCheck file w (hears l b) = answerCheck (hearAnswer file w l b)
+abbrev pub nothingSent : Device → List ℕ → Sender → World
+nothingSent d store s = record { device = d; store = store; sender = s; request = []; answer = [] }
 
 -- What is there where a check passes, and where it fails.
 unfoldable pub choose : {A : Type 0} → Check → A → A → A
@@ -50,12 +39,12 @@ roundRefusal file w r = firstRefusal file w (roundCalls file w r)
 -- Rounds one after the other, each with unit, store and sender as the last left them, and the first refusal among them.
 unfoldable pub roundsMade : List ℕ → World → List Round → World
 roundsMade file w [] = w
-roundsMade file w (r ∷ rs) = roundsMade file (roundMade file (atRest (w .device) (w .store) (w .sender)) r) rs
+roundsMade file w (r ∷ rs) = roundsMade file (roundMade file (nothingSent (w .device) (w .store) (w .sender)) r) rs
 
 unfoldable pub roundsRefusal : List ℕ → World → List Round → Check
 roundsRefusal file w [] = passed
 roundsRefusal file w (r ∷ rs) =
-    let v = atRest (w .device) (w .store) (w .sender) in
+    let v = nothingSent (w .device) (w .store) (w .sender) in
     choose (roundRefusal file v r) (roundsRefusal file (roundMade file v r) rs) (roundRefusal file v r)
 
 -- The same unit, store and sender.

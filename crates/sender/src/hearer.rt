@@ -1,26 +1,27 @@
 // The answer of a round.
 ghost use mathlib.Core.Path.{_≡_};
 ghost use Rattle.link.specs.Link.{linkRead};
-ghost use Rattle.upload.specs.Round.{meaning, hear, hearTold};
+ghost use Rattle.upload.specs.Round.{meaning, hear};
+ghost use Rattle.upload.specs.Sender.{senderTold};
 use crate::checks;
 use message::ReadAnswer;
 use message::Refusal;
-use upload::HearAnswer;
 use upload::Meaning;
 use upload::Sender;
+use upload::SenderAnswer;
 
 // Takes the answer's bytes, none where there was no answer, and counts the round.
-pub fn hear(sender: Sender, file: &[u8], answer: &[u8]) -> HearAnswer
-    ensures { λ r. ⌜ hearTold r ≡ hear sender (now (file .entry)) (now (answer .entry)) ⌝ }
+pub fn hear(sender: Sender, file: &[u8], answer: &[u8]) -> SenderAnswer
+    ensures { λ r. ⌜ senderTold r ≡ hear sender (now (file .entry)) (now (answer .entry)) ⌝ }
 {
     let state = sender.state;
     if !checks::is_running(state) {
-        return HearAnswer::Sender(sender);
+        return SenderAnswer::Sender(sender);
     }
     if !checks::same_file(sender, file) {
-        return HearAnswer::Refused(Refusal::IllegalFileSize);
+        return SenderAnswer::Refused(Refusal::IllegalFileSize);
     }
-    HearAnswer::Sender(stages::round_over(sender, meaning(sender, file, answer)))
+    SenderAnswer::Sender(stages::round_over(sender, meaning(sender, file, answer)))
 }
 
 // What the answer's bytes mean, none where there was no answer.

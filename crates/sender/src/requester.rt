@@ -1,9 +1,9 @@
 // The request of a round.
 ghost use mathlib.Core.Path.{_≡_};
-ghost use Rattle.message.specs.Answer.{within, counted, laid};
+ghost use Rattle.message.specs.Answer.{within, counted, laid, about};
 ghost use Rattle.link.specs.Link.{linkWrite};
 ghost use Rattle.little_endian.specs.LittleEndian.{toBytes};
-ghost use Rattle.upload.specs.Sender.{asked, request, requestPayload, requestTold};
+ghost use Rattle.upload.specs.Sender.{sent, request, requestPayload, requestTold};
 use crate::checks;
 use link::Link;
 use message::Message;
@@ -47,8 +47,8 @@ fn request_payload<'a>(stage: Stage, file: &'a [u8], frame: u32, number: &'a [u8
 }
 
 fn send(link: Link, message: Message, payload: &[u8], out: &mut [u8]) -> RequestAnswer
-    ensures { λ r. ⌜ requestTold r ≡ counted (within (now (out .entry)) (asked (linkWrite link message (now (payload .entry))))) ⌝ }
-    ensures { λ _. ⌜ now (out .exit) ≡ laid (within (now (out .entry)) (asked (linkWrite link message (now (payload .entry))))) (now (out .entry)) ⌝ }
+    ensures { λ r. ⌜ requestTold r ≡ counted (within (now (out .entry)) (about sent (linkWrite link message (now (payload .entry))))) ⌝ }
+    ensures { λ _. ⌜ now (out .exit) ≡ laid (within (now (out .entry)) (about sent (linkWrite link message (now (payload .entry))))) (now (out .entry)) ⌝ }
 {
     match link_writer::write(link, message, payload, out) {
         WriteAnswer::Length(n) => RequestAnswer::Request(n),

@@ -1,24 +1,24 @@
 // Starting a sender.
 ghost use mathlib.Core.Path.{_≡_};
-ghost use Rattle.upload.specs.Sender.{addressesLegal, start, startTold};
+ghost use Rattle.upload.specs.Sender.{addressesLegal, start, senderTold};
 use link::Link;
 use message::Refusal;
 use upload::Sender;
+use upload::SenderAnswer;
 use upload::Stage;
-use upload::StartAnswer;
 use upload::State;
 
 // A sender at first, for a file of this length.
-pub fn start(link: Link, source: u8, destination: u8, length: u32) -> StartAnswer
-    ensures { λ r. ⌜ startTold r ≡ start link source destination length ⌝ }
+pub fn start(link: Link, source: u8, destination: u8, length: u32) -> SenderAnswer
+    ensures { λ r. ⌜ senderTold r ≡ start link source destination length ⌝ }
 {
     if !file::size_legal(length as usize) {
-        return StartAnswer::Refused(Refusal::IllegalFileSize);
+        return SenderAnswer::Refused(Refusal::IllegalFileSize);
     }
     if !addresses_legal(link, source, destination) {
-        return StartAnswer::Refused(Refusal::IllegalValue);
+        return SenderAnswer::Refused(Refusal::IllegalValue);
     }
-    StartAnswer::Sender(Sender {
+    SenderAnswer::Sender(Sender {
         link,
         source,
         destination,

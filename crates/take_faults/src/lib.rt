@@ -1,4 +1,4 @@
-// Take frame: what keeps the frame in the buffer from being taken (document 01, "The unit", its table).
+// Take frame: its faults (document 01, "The unit", its table).
 mod number;
 
 ghost use mathlib.Core.Path.{_≡_};

@@ -7,29 +7,28 @@ use native.Mathlib.Omega.{arith}
 use borrow.Author.Tests.{eq-eqb, le-leb}
 use lib.Dec.{leb}
 use lib.ListN.{length}
-use Rattle.message.specs.Answer.{Answer, given, require, after, within}
+use Rattle.message.specs.Answer.{Answer, given, require, after, within, about}
 use Rattle.message.specs.Checks.{idLegal, payloadLegal, errorLegal, fieldChecks, told}
 use Rattle.message.specs.Kinds.{inside, isEvent}
 use Rattle.little_endian.proofs.Laws.{to-length}
 use Rattle.link.specs.Link.{linkRead, mostBytes}
 use Rattle.link.proofs.RoundTrip.{Arrives}
-use Rattle.upload.specs.Sender.{requestKind, requestId, requestPayload, requestMessage, asks, asked, sameFile, request}
+use Rattle.upload.specs.Sender.{requestKind, requestId, requestPayload, requestMessage, sent, sameFile, request}
 use Rattle.upload.specs.declared.Sender.{Sender}
 use Rattle.upload.specs.declared.Stage.{Stage}
 use Rattle.upload.specs.declared.Stage.the-variants.{Frame, Back, Compare, Take, Confirm}
 use Rattle.upload.specs.declared.State.the-variants.{Running}
-use Rattle.upload.specs.World.{World, shared, lent, bytesOr, does, isRefusal, isRefused}
-use Rattle.upload.specs.World as world
+use Rattle.upload.specs.World.{World, shared, lent, asks, bytesOr, does, isRefused, answerCheck, isFailed, callCheck}
 use Rattle.upload.proofs.Exchange.{requestOf, requestRead, Plain, request-arrives}
 use Rattle.upload.proofs.Files.{frame-most}
 use Rattle.upload.proofs.Table.{Upload, sender, Asked}
 
 -- An answer that is not refused for want of room is the answer.
-pub unrefused : {A : Type 0} (out : List ℕ) (x : Answer A (List ℕ)) (a : A) (b : List ℕ) → x ≡ given a b → isRefusal (within out x) ≡ false → within out x ≡ given a b
-unfolding within after require isRefusal
+pub unrefused : {A : Type 0} (out : List ℕ) (x : Answer A (List ℕ)) (a : A) (b : List ℕ) → x ≡ given a b → isFailed (answerCheck (within out x)) ≡ false → within out x ≡ given a b
+unfolding within after require isFailed answerCheck
 unrefused out x a b e h = rw e (by (leb (length b) (length out)) refl (rw e at h))
   where
-    by : (t : Bool) → leb (length b) (length out) ≡ t → isRefusal (within out (given a b)) ≡ false → within out (given a b) ≡ given a b
+    by : (t : Bool) → leb (length b) (length out) ≡ t → isFailed (answerCheck (within out (given a b))) ≡ false → within out (given a b) ≡ given a b
     by true q h = rw q
     by false q h = absurd (let z : _≡_ {A = ℕ} 0 1 = cc (rw q at h) in omega arith)
 
@@ -48,15 +47,15 @@ request-sent u stage f =
 
 -- The request of a running sender: its bytes are within the link's bound, and the unit will read them.
 pub asks-bytes : (u : Upload) (s : Sender) (stage : Stage) (f since rounds : ℕ) → s ≡ sender u f stage since rounds Running
-    → (b : List ℕ) × (request s (u .file) ≡ given asks b) × (length b ≤ mostBytes (u .link)) × (linkRead (u .link) b ≡ given (requestRead (u .link) (u .source) (u .destination) stage) (requestPayload stage (u .file) f))
-unfolding request requestMessage sameFile asked after require
+    → (b : List ℕ) × (request s (u .file) ≡ given sent b) × (length b ≤ mostBytes (u .link)) × (linkRead (u .link) b ≡ given (requestRead (u .link) (u .source) (u .destination) stage) (requestPayload stage (u .file) f))
+unfolding request requestMessage sameFile about after require
 asks-bytes u s stage f since rounds e =
     let sent = request-sent u stage f in
     (sent .bytes, rw (e, eq-eqb (length (u .file)) (length (u .file)) refl, sent .wrote), sent .most, sent .reads)
 
 pub asks-request : (u : Upload) (w : World) (stage : Stage) (f since rounds : ℕ) (out : List ℕ) → w .sender ≡ sender u f stage since rounds Running
-    → isRefused (u .file) w (world.asks shared out) ≡ false → Asked u (does (u .file) w (world.asks shared out)) stage f
-unfolding isRefused does lent bytesOr
+    → isRefused (u .file) w (asks shared out) ≡ false → Asked u (does (u .file) w (asks shared out)) stage f
+unfolding isRefused callCheck does lent bytesOr
 asks-request u w stage f since rounds out e h =
-    let sent = asks-bytes u (w .sender) stage f since rounds e in
-    rw (unrefused out (request (w .sender) (u .file)) asks (sent .0) (sent .1) h) (sent .3)
+    let written = asks-bytes u (w .sender) stage f since rounds e in
+    rw (unrefused out (request (w .sender) (u .file)) sent (written .0) (written .1) h) (written .3)

@@ -8,7 +8,7 @@ use native.Mathlib.Omega.{arith}
 use borrow.Author.Tests.{ltb-true, ltb-false, le-ltb, ne-eqb}
 use lib.Dec.{ltb}
 use lib.ListN.{length}
-use Rattle.message.specs.Answer.{Answer, Check, refused, given, passed, failed, require}
+use Rattle.message.specs.Answer.{Answer, Check, refused, given, passed, failed, require, about}
 use Rattle.message.proofs.Checks.{require-passed, both-true}
 use Rattle.little_endian.specs.LittleEndian.{fromBytes}
 use Rattle.file.specs.File.{sizeLegal, frameCount}
@@ -20,7 +20,7 @@ use Rattle.device_rules.specs.Faults.{fault, setupFault, commandFault}
 use Rattle.device_rules.specs.declared.Fault.{Fault}
 use Rattle.device_rules.specs.declared.Fault.the-variants.{None}
 use Rattle.device_rules.specs.Commands.{setupDone, commandDone, afterCommand}
-use Rattle.device_rules.specs.Receive.{Reply, answers, silent, isTaken, answered, commandReply, kindReply, messageReply, receive}
+use Rattle.device_rules.specs.Receive.{Reply, answers, silent, isTaken, commandReply, kindReply, messageReply, receive}
 use Rattle.upload.specs.Sender.{newSender, addressesLegal, checked, start}
 use Rattle.upload.specs.declared.Sender.{Sender}
 use Rattle.upload.specs.declared.Stage.the-variants.{Frame}
@@ -28,7 +28,7 @@ use Rattle.upload.specs.Demand.{Start, goodRounds}
 use Rattle.upload.specs.Legal.{between}
 use Rattle.upload.specs.Stored.{waiting}
 use Rattle.upload.specs.World.{World}
-use Rattle.upload.proofs.Counting.{lull-none}
+use Rattle.upload.proofs.Counting.{none-good-yet}
 use Rattle.upload.proofs.Exchange.{Addressed}
 use Rattle.upload.proofs.Files.{count-legal, store-first}
 use Rattle.device_rules.proofs.Faults.{unitAt}
@@ -70,8 +70,8 @@ setup-passed d store p e =
     (six .0, ltb-false store (fromBytes p) (neither (not (sizeLegal (fromBytes p))) _ (three .0) .1))
 
 -- The unit that answered the setup.
-answered-given : (d d′ : Device) (x : Answer Unit (List ℕ)) (b : List ℕ) → answered d x ≡ given (answers d′) b → d ≡ d′
-unfolding answered
+answered-given : (d d′ : Device) (x : Answer Unit (List ℕ)) (b : List ℕ) → about (answers d) x ≡ given (answers d′) b → d ≡ d′
+unfolding about
 answered-given d d′ (refused n) b e = absurd (let z : _≡_ {A = ℕ} 0 1 = cc in omega arith)
 answered-given d d′ (given u b′) b e = cc
 
@@ -145,5 +145,5 @@ module _ (file : List ℕ) (w : World) (st : Start file w) where
         since = 0;
         sends = sym (sender-checks .1);
         place = tt;
-        course = record { below = omega arith; few = omega arith; lull = lull-none []; rounds = omega arith; good = omega arith };
+        course = record { below = omega arith; few = omega arith; noneGood = none-good-yet []; rounds = omega arith; good = omega arith };
       })

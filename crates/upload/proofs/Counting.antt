@@ -1,4 +1,4 @@
--- Carried by induction on the count and on the rounds, and by arithmetic.
+-- Counts of frames and of rounds: carried by induction on the count and on the rounds, and by arithmetic.
 use Prim.Native.Nat.{ℕ, zero, suc, _+_, _≤_, _<_, min}
 use mathlib.Core.Bool.{Bool, true, false}
 use mathlib.Core.List.{List, [], _∷_, _++_, append-assoc, append-nil}
@@ -44,19 +44,19 @@ module _ (past : List Bool) where
   length-round r = length-append past (r ∷ [])
 
 -- The last n rounds have no good one.
-pub record Lull (past : List Bool) (n : ℕ) : Type 0 where
+pub record NoneGood (past : List Bool) (n : ℕ) : Type 0 where
   pub before : List Bool
   pub tail : List Bool
   pub whole : past ≡ before ++ tail
   pub size : length tail ≡ n
   pub none : goodRounds tail ≡ 0
 
-pub lull-none : (past : List Bool) → Lull past 0
+pub none-good-yet : (past : List Bool) → NoneGood past 0
 unfolding goodRounds
-lull-none past = record { before = past; tail = []; whole = sym (append-nil past); size = refl; none = refl }
+none-good-yet past = record { before = past; tail = []; whole = sym (append-nil past); size = refl; none = refl }
 
-pub lull-more : {past : List Bool} {n : ℕ} → Lull past n → Lull (past ++ (false ∷ [])) (n + 1)
-lull-more l =
+pub none-good-more : {past : List Bool} {n : ℕ} → NoneGood past n → NoneGood (past ++ (false ∷ [])) (n + 1)
+none-good-more l =
     record {
       before = l .before;
       tail = l .tail ++ (false ∷ []);
@@ -65,7 +65,7 @@ lull-more l =
       none = rw (bad-round (l .tail), l .none);
     }
 
--- A lull of fifty rounds is what NoFiftyWithout excludes.
-pub fifty-without : (past rest : List Bool) → Lull past 50 → NoFiftyWithout (past ++ rest) → ⊥
+-- A noneGood of fifty rounds is what NoFiftyWithout excludes.
+pub fifty-without : (past rest : List Bool) → NoneGood past 50 → NoFiftyWithout (past ++ rest) → ⊥
 fifty-without past rest l good =
     omega (arith, good (l .before) (l .tail) rest (rw (l .whole, append-assoc)) (omega (arith, l .size)))

@@ -11,7 +11,7 @@ use Rattle.device_rules.specs.declared.Device.{Device}
 use Rattle.device_rules.specs.declared.Phase.the-variants as Phase·of
 use Rattle.upload.specs.Sender.{isRunning, framesKnown}
 use Rattle.upload.specs.declared.Stage.{Stage}
-use Rattle.upload.specs.declared.Stage.the-variants.{Frame, Back, Compare, Take, Confirm}
+use Rattle.upload.specs.declared.Stage.the-variants.{Frame, Compare, Take, Confirm}
 use Rattle.upload.specs.declared.State.the-variants.{Finished, GivenUp}
 use Rattle.upload.specs.Demand.{goodRounds, NoFiftyWithout, Demand}
 use Rattle.upload.specs.Legal.{Place, Legal, stops, refuses, workDone, requestMade, requestArrives, requestRepeats, delivered, requestLost, answerLost, twice, endedWorks, endedAsks, endedHears}
@@ -21,7 +21,7 @@ use Rattle.upload.proofs.Begin.{upload, begins}
 use Rattle.upload.proofs.Counting.{count-below, fifty-without}
 use Rattle.upload.proofs.Files.{whole-file}
 use Rattle.upload.proofs.Keeps.{keeps}
-use Rattle.upload.proofs.Table.{Upload, Buffer, free, loaded, pending, isPending, Stands, steps, markOf, frames, Holding, UnitAt, sender, Invariant, runs, gaveUp, done}
+use Rattle.upload.proofs.Table.{Upload, Buffer, free, loaded, pending, isPending, Stands, markOf, frames, Holding, UnitAt, sender, Invariant, runs, gaveUp, done, few-steps}
 
 -- A beginning of a legal list is legal.
 cut : (P : List Call → Type 0) (a b : List Call) (c : Call) (h : List Call) → c ∷ h ≡ a ++ b → P [] → ((a′ : List Call) → h ≡ a′ ++ b → P (c ∷ a′)) → P a
@@ -110,13 +110,6 @@ module _ (u : Upload) (w : World) (past : List Bool) (marks : ℕ → Mark) wher
       moment-at (h .row .stored) (h .row .buffer) (h .row .unit) (rw (h .sends) (k .0)) (rw (h .sends) (k .1)) (rw (h .sends))
   moment (done h) = moment-at (frames u) free (h .unit) (rw (h .sends) (omega (arith, h .last))) (rw (h .sends) (omega (arith, h .last))) (rw (h .sends))
 
-  few-steps : (stage : Stage) → steps stage ≤ 3
-  few-steps Frame = omega arith
-  few-steps Back = omega arith
-  few-steps Compare = omega arith
-  few-steps Take = omega arith
-  few-steps Confirm = omega arith
-
   -- A running sender has had fewer than 200 rounds a frame, and fewer than four good ones.
   end : {p : Place} → Invariant u w past marks p → 200 * frames u ≤ length past → isRunning (w .sender .state) ≡ false
   end (runs h) most = absurd (omega (arith, h .course .rounds, h .course .below, h .course .few, few-steps (h .row .stage)))
@@ -125,12 +118,12 @@ module _ (u : Upload) (w : World) (past : List Bool) (marks : ℕ → Mark) wher
 
   persist : {p : Place} → Invariant u w past marks p → NoFiftyWithout past → w .sender .state ≡ GivenUp → ⊥
   persist (runs h) none e = absurd (let z : _≡_ {A = ℕ} 0 1 = cc (rw (h .sends) at e) in omega arith)
-  persist (gaveUp h) none e = fifty-without past [] (h .lull) (rw append-nil none)
+  persist (gaveUp h) none e = fifty-without past [] (h .noneGood) (rw append-nil none)
   persist (done h) none e = absurd (let z : _≡_ {A = ℕ} 0 1 = cc (rw (h .sends) at e) in omega arith)
 
   finish : {p : Place} → Invariant u w past marks p → NoFiftyWithout past → 4 * frames u ≤ goodRounds past → w .sender .state ≡ Finished
   finish (runs h) none most = absurd (omega (arith, h .course .good, h .course .below, few-steps (h .row .stage)))
-  finish (gaveUp h) none most = absurd (fifty-without past [] (h .lull) (rw append-nil none))
+  finish (gaveUp h) none most = absurd (fifty-without past [] (h .noneGood) (rw append-nil none))
   finish (done h) none most = rw (h .sends)
 
   -- A finished sender leaves the whole file.

@@ -1,4 +1,4 @@
--- Carried by where the seams of take and drop are, and by arithmetic for the lengths there.
+-- The file frame by frame: carried by the laws of take and drop at a frame's edge, and by arithmetic for the lengths.
 use Prim.Native.Nat.{ℕ, _+_, _-_, _*_, _≤_, _<_, min}
 use mathlib.Core.Bool.{Bool, true, false}
 use mathlib.Core.List.{List, _++_, append-assoc}

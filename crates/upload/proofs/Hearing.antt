@@ -14,15 +14,15 @@ use Rattle.upload.specs.Round.{meaning, mostWaits, waited, hasNext, adva
 use Rattle.upload.specs.declared.Meaning.the-variants.{Stay, Forward}
 use Rattle.upload.specs.declared.Sender.{Sender}
 use Rattle.upload.specs.declared.Stage.{Stage}
-use Rattle.upload.specs.declared.Stage.the-variants.{Frame, Back, Compare, Take, Confirm}
+use Rattle.upload.specs.declared.Stage.the-variants.{Frame, Compare, Take, Confirm}
 use Rattle.upload.specs.declared.State.the-variants.{Running, Finished, GivenUp}
 use Rattle.upload.specs.Demand.{goodRounds}
 use Rattle.upload.specs.Legal.{Place, between}
 use Rattle.upload.specs.Stored.{Mark}
 use Rattle.upload.specs.World.{World}
-use Rattle.upload.proofs.Counting.{lull-none, lull-more, good-round, bad-round, length-round}
+use Rattle.upload.proofs.Counting.{none-good-yet, none-good-more, good-round, bad-round, length-round}
 use Rattle.upload.proofs.Files.{count-legal}
-use Rattle.upload.proofs.Table.{Upload, Buffer, free, loaded, pending, Stands, steps, Goes, frames, sender, Running·, Invariant, runs, gaveUp, done}
+use Rattle.upload.proofs.Table.{Upload, Buffer, free, loaded, pending, Stands, steps, Goes, frames, sender, Running·, Invariant, runs, gaveUp, done, few-steps}
 
 -- No bytes are no answer, on every link.
 pub nothing-heard : (l : Link) (s : Sender) (file : List ℕ) → meaning s file (linkRead l []) ≡ Stay
@@ -44,14 +44,7 @@ module _ (u : Upload) (w : World) (past : List Bool) (marks : ℕ → Mark) wher
 
   -- A round more: far below what the counter holds.
   counts : (p : Place) (r : Bool) (h : Running· u p w past marks) → (length past + 1) % 4294967296 ≡ length (past ++ (r ∷ []))
-  counts p r h = rw (length-round past r) (omega (arith, h .course .below, h .course .few, h .course .rounds, most (h .row .stage), count-legal (length (u .file)) (u .legal) .1))
-    where
-      most : (stage : Stage) → steps stage ≤ 3
-      most Frame = omega arith
-      most Back = omega arith
-      most Compare = omega arith
-      most Take = omega arith
-      most Confirm = omega arith
+  counts p r h = rw (length-round past r) (omega (arith, h .course .below, h .course .few, h .course .rounds, few-steps (h .row .stage), count-legal (length (u .file)) (u .legal) .1))
 
   -- A round without a step forward.
   pub stays : (p : Place) (h : Running· u p w past marks) → Invariant u (handed (roundOver (sender u (h .row .frame) (h .row .stage) (h .since) (length past) Running) Stay)) (past ++ (false ∷ [])) marks between
@@ -68,7 +61,7 @@ module _ (u : Upload) (w : World) (past : List Bool) (marks : ℕ → Mark) wher
             course = record {
               below = h .course .below;
               few = omega (arith, ltb-true (h .since + 1) mostWaits e);
-              lull = lull-more (h .course .lull);
+              noneGood = none-good-more (h .course .noneGood);
               rounds = rw (length-round past false) (omega (arith, h .course .rounds));
               good = rw (bad-round past) (h .course .good);
             };
@@ -79,7 +72,7 @@ module _ (u : Upload) (w : World) (past : List Bool) (marks : ℕ → Mark) wher
             row = h .row;
             since = h .since;
             sends = ap (λ (n : ℕ). sender u (h .row .frame) (h .row .stage) (h .since) n GivenUp) (counts p false h);
-            lull = rw (← fifty) (lull-more (h .course .lull));
+            noneGood = rw (← fifty) (none-good-more (h .course .noneGood));
           }))
 
   good-most : (r : Bool) → goodRounds (past ++ (r ∷ [])) ≤ goodRounds past + 1
@@ -98,7 +91,7 @@ module _ (u : Upload) (w : World) (past : List Bool) (marks : ℕ → Mark) wher
         course = record {
           below = below;
           few = omega arith;
-          lull = lull-none (past ++ (r ∷ []));
+          noneGood = none-good-yet (past ++ (r ∷ []));
           rounds = rw (length-round past r) (omega (arith, h .course .rounds, h .course .few, step));
           good = omega (arith, good-most r, h .course .good, step);
         };

@@ -18,7 +18,7 @@ use Rattle.upload.specs.declared.Meaning.the-variants.{Stay, Forward}
 use Rattle.upload.specs.declared.State.the-variants.{Running}
 use Rattle.upload.specs.Legal.{Place, begun, asked, arrived, repeated, between, Legal, stops, refuses, workDone, requestMade, requestArrives, requestRepeats, delivered, requestLost, answerLost, twice, endedWorks, endedAsks, endedHears}
 use Rattle.upload.specs.Stored.{Mark, markWorked, markCall, markAfter}
-use Rattle.upload.specs.World.{World, Lent, shared, lent, kept, Call, works, asks, arrives, hears, bytesOr, senderOr, does, run, isRefused}
+use Rattle.upload.specs.World.{World, Lent, shared, lent, kept, Call, works, asks, arrives, hears, bytesOr, senderOr, does, run, isRefused, callCheck}
 use Rattle.upload.proofs.Arriving.{arrivedBuffer, arrived-stands, arrived-quiet, arrival, read-takes, arrived-mark}
 use Rattle.upload.proofs.Asking.{unrefused, asks-request}
 use Rattle.upload.proofs.Files.{count-legal}
@@ -51,7 +51,7 @@ row-marks u d store marks marks′ e h =
 invariant-marks : (u : Upload) (w : World) (past : List Bool) (marks : ℕ → Mark) (p : Place) (marks′ : ℕ → Mark) → ((j : ℕ) → marks′ j ≡ marks j) → Invariant u w past marks p → Invariant u w past marks′ p
 unfolding row-marks
 invariant-marks u w past marks p marks′ e (runs h) = runs (record { row = row-marks u (w .device) (w .store) marks marks′ e (h .row); since = h .since; sends = h .sends; place = h .place; course = h .course })
-invariant-marks u w past marks p marks′ e (gaveUp h) = gaveUp (record { row = row-marks u (w .device) (w .store) marks marks′ e (h .row); since = h .since; sends = h .sends; lull = h .lull })
+invariant-marks u w past marks p marks′ e (gaveUp h) = gaveUp (record { row = row-marks u (w .device) (w .store) marks marks′ e (h .row); since = h .since; sends = h .sends; noneGood = h .noneGood })
 invariant-marks u w past marks p marks′ e (done h) =
     done (record { frame = h .frame; since = h .since; unit = unit-marks u (frames u) free (w .device) (w .store) marks marks′ e (h .unit); sends = h .sends; last = h .last })
 
@@ -103,7 +103,7 @@ module _ (u : Upload) (w : World) (past : List Bool) (marks : ℕ → Mark) wher
   pub keeps-arrive : (p : Place) (d : Bool) (out : List ℕ) (h : Running· u p w past marks) → Quiet d (h .row .stage) (h .row .buffer) → Asked u w (h .row .stage) (h .row .frame)
       → isRefused (u .file) w (arrives (w .request) shared out) ≡ false
       → Running· u (arrived d) (does (u .file) w (arrives (w .request) shared out)) past (marksAfter (u .file) w (arrives (w .request) shared out) marks)
-  unfolding isRefused does lent afterReceive bytesOr markCall
+  unfolding isRefused callCheck does lent afterReceive bytesOr markCall
   keeps-arrive p d out h quiet request e =
       let r = h .row in
       let a = arrival u (w .request) (r .frame) (h .since) (length past) (length (w .store)) (h .course .below) d (r .stage) (r .buffer) (r .stored) (r .unit .buffer) (r .unit .buffered) request (r .stands) quiet (r .unit .holding) in
@@ -175,7 +175,7 @@ module _ (u : Upload) (w : World) (past : List Bool) (marks : ℕ → Mark) wher
       → Invariant u (does (u .file) w (works shared)) past (marksAfter (u .file) w (works shared) marks) between
   unfolding does row-works
   ended-works e n (runs h) = absurd (let z : _≡_ {A = ℕ} 0 1 = cc (rw (h .sends) at n) in omega arith)
-  ended-works e n (gaveUp h) = gaveUp (record { row = row-works e (h .row); since = h .since; sends = h .sends; lull = h .lull })
+  ended-works e n (gaveUp h) = gaveUp (record { row = row-works e (h .row); since = h .since; sends = h .sends; noneGood = h .noneGood })
   ended-works e n (done h) = done (record { frame = h .frame; since = h .since; unit = unit-works (frames u) free e (h .unit); sends = h .sends; last = h .last })
 
   -- and the sender's calls, which change nothing of it.
@@ -184,7 +184,7 @@ module _ (u : Upload) (w : World) (past : List Bool) (marks : ℕ → Mark) wher
   unfolding does markCall row-marks
   ended-asks l out n (runs h) = absurd (let z : _≡_ {A = ℕ} 0 1 = cc (rw (h .sends) at n) in omega arith)
   ended-asks l out n (gaveUp h) =
-      gaveUp (record { row = row-marks u (w .device) (w .store) marks _ (λ j. same-either (isRefused (u .file) w (asks l out)) (marks j)) (h .row); since = h .since; sends = h .sends; lull = h .lull })
+      gaveUp (record { row = row-marks u (w .device) (w .store) marks _ (λ j. same-either (isRefused (u .file) w (asks l out)) (marks j)) (h .row); since = h .since; sends = h .sends; noneGood = h .noneGood })
   ended-asks l out n (done h) =
       done (record { frame = h .frame; since = h .since; unit = unit-marks u (frames u) free (w .device) (w .store) marks _ (λ j. same-either (isRefused (u .file) w (asks l out)) (marks j)) (h .unit); sends = h .sends; last = h .last })
 

@@ -10,40 +10,40 @@ use Rattle.device_rules.specs.Work.{storeAfter, afterWork}
 use Rattle.device_rules.specs.Answers.{afterReceive}
 use Rattle.device_rules.specs.Receive.{Reply}
 use Rattle.upload.specs.declared.Sender.{Sender}
-use Rattle.upload.specs.World.{World, Lent, shared, other, lent, kept, Call, works, asks, arrives, hears, bytesOr, senderOr, workAnswer, askAnswer, arriveAnswer, hearAnswer, does, isRefusal, isRefused}
+use Rattle.upload.specs.World.{World, Lent, shared, other, lent, kept, Call, works, asks, arrives, hears, bytesOr, senderOr, workAnswer, askAnswer, arriveAnswer, hearAnswer, does, isRefused, answerCheck, isFailed, callCheck}
 
 lent-kept : (l : Lent) (s : List ℕ) → kept l (lent l s) s ≡ s
 unfolding lent kept
 lent-kept shared s = refl
 lent-kept (other t) s = refl
 
-no-refusal : {A B : Type 0} {P : Type 0} (a : A) (b : B) → isRefusal (given a b) ≡ true → P
-unfolding isRefusal
+no-refusal : {A B : Type 0} {P : Type 0} (a : A) (b : B) → isFailed (answerCheck (given a b)) ≡ true → P
+unfolding isFailed answerCheck
 no-refusal a b e = absurd (let z : _≡_ {A = ℕ} 0 1 = cc in omega arith)
 
-work-leaves : (d : Device) (s : List ℕ) (l : Lent) (a : Answer Device (List ℕ)) → isRefusal a ≡ true
+work-leaves : (d : Device) (s : List ℕ) (l : Lent) (a : Answer Device (List ℕ)) → isFailed (answerCheck a) ≡ true
     → (afterWork d a ≡ d) × (kept l (storeAfter d a (lent l s)) s ≡ s)
 unfolding afterWork storeAfter
 work-leaves d s l (refused n) e = (refl, lent-kept l s)
 work-leaves d s l (given d′ b) e = no-refusal d′ b e
 
-bytes-leave : {A : Type 0} (b : List ℕ) (a : Answer A (List ℕ)) → isRefusal a ≡ true → bytesOr b a ≡ b
+bytes-leave : {A : Type 0} (b : List ℕ) (a : Answer A (List ℕ)) → isFailed (answerCheck a) ≡ true → bytesOr b a ≡ b
 unfolding bytesOr
 bytes-leave b (refused n) e = refl
 bytes-leave b (given x b′) e = no-refusal x b′ e
 
-reply-leaves : (d : Device) (a : Answer Reply (List ℕ)) → isRefusal a ≡ true → afterReceive d a ≡ d
+reply-leaves : (d : Device) (a : Answer Reply (List ℕ)) → isFailed (answerCheck a) ≡ true → afterReceive d a ≡ d
 unfolding afterReceive
 reply-leaves d (refused n) e = refl
 reply-leaves d (given r b) e = no-refusal r b e
 
-hear-leaves : (s : Sender) (a : Answer Sender Unit) → isRefusal a ≡ true → senderOr s a ≡ s
+hear-leaves : (s : Sender) (a : Answer Sender Unit) → isFailed (answerCheck a) ≡ true → senderOr s a ≡ s
 unfolding senderOr
 hear-leaves s (refused n) e = refl
 hear-leaves s (given s′ u) e = no-refusal s′ u e
 
 pub refused-leaves : (file : List ℕ) (w : World) (c : Call) → isRefused file w c ≡ true → does file w c ≡ w
-unfolding isRefused does
+unfolding isRefused callCheck does
 refused-leaves file w (works l) e = let g = work-leaves (w .device) (w .store) l (workAnswer w l) e in simp (g .0, g .1)
 refused-leaves file w (asks l out) e = rw (bytes-leave (w .request) (askAnswer file w l out) e)
 refused-leaves file w (arrives b l out) e = simp (reply-leaves (w .device) (arriveAnswer w b l out) e, bytes-leave (w .answer) (arriveAnswer w b l out) e)

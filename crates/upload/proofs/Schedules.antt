@@ -13,15 +13,14 @@ use Rattle.link.specs.declared.Link.the-variants.{Uart, Rs485, Can, Csp}
 use Rattle.device_rules.specs.declared.Device.{Device}
 use Rattle.device_rules.specs.Receive.{answers, receive}
 use Rattle.upload.specs.Round.{hear}
-use Rattle.upload.specs.Sender.{isRunning, checked, sameFile, request}
-use Rattle.upload.specs.Sender as sent
+use Rattle.upload.specs.Sender.{isRunning, checked, sent, sameFile, request}
 use Rattle.upload.specs.Legal.{Place, begun, asked, arrived, repeated, between, Legal, stops, workDone, requestMade, requestArrives, requestRepeats, delivered, requestLost, answerLost, twice, endedWorks, endedAsks}
 use Rattle.upload.specs.Schedule.{comesBack, isGood, goods, output, exchange, requested, roundCalls, scheduled, Realised, EverySchedule}
 use Rattle.upload.specs.declared.Fate.{Fate}
 use Rattle.upload.specs.declared.Fate.the-variants.{Delivered, RequestLost, AnswerLost, Twice}
 use Rattle.upload.specs.declared.Round.{Round}
 use Rattle.upload.specs.Stored.{Mark, waiting}
-use Rattle.upload.specs.World.{World, shared, lent, Call, works, asks, arrives, hears, does, run, isRefusal, isRefused}
+use Rattle.upload.specs.World.{World, shared, lent, Call, works, asks, arrives, hears, does, run, isRefused, answerCheck, isFailed, callCheck}
 use Rattle.upload.proofs.Arriving.{arrivedBuffer, arrival}
 use Rattle.upload.proofs.Asking.{asks-bytes}
 use Rattle.upload.proofs.Begin.{upload, begins}
@@ -37,42 +36,42 @@ most-bytes Rs485 = omega arith
 most-bytes Can = omega arith
 most-bytes Csp = omega arith
 
-fits-output : {A : Type 0} (l : Link) (x : Answer A (List ℕ)) (a : A) (b : List ℕ) → x ≡ given a b → length b ≤ mostBytes l → isRefusal (within output x) ≡ false
-unfolding within after require isRefusal
+fits-output : {A : Type 0} (l : Link) (x : Answer A (List ℕ)) (a : A) (b : List ℕ) → x ≡ given a b → length b ≤ mostBytes l → isFailed (answerCheck (within output x)) ≡ false
+unfolding within after require isFailed answerCheck
 fits-output l x a b e h = rw (e, le-leb (length b) (length output) (omega (arith, h, most-bytes l, length-replicate {A = ℕ} 522 0)))
 
 module _ (u : Upload) (w : World) (past : List Bool) (marks : ℕ → Mark) (p : Place) (h : Running· u p w past marks) where
   pub works-free : isRefused (u .file) w (works shared) ≡ false
-  unfolding isRefused lent
+  unfolding isRefused callCheck lent
   works-free = work-free u (h .row .stored) (h .row .buffer) (w .device) (w .store) marks (h .row .unit)
 
   pub asks-free : isRefused (u .file) w (asks shared output) ≡ false
-  unfolding isRefused lent
+  unfolding isRefused callCheck lent
   asks-free =
       let b = asks-bytes u (w .sender) (h .row .stage) (h .row .frame) (h .since) (length past) (h .sends) in
-      fits-output (u .link) (request (w .sender) (u .file)) sent.asks (b .0) (b .1) (b .2)
+      fits-output (u .link) (request (w .sender) (u .file)) sent (b .0) (b .1) (b .2)
 
   pub arrives-free : (d : Bool) → Quiet d (h .row .stage) (h .row .buffer) → Asked u w (h .row .stage) (h .row .frame) → isRefused (u .file) w (arrives (w .request) shared output) ≡ false
-  unfolding isRefused lent
+  unfolding isRefused callCheck lent
   arrives-free d quiet request =
       let a = arrival u (w .request) (h .row .frame) (h .since) (length past) (length (w .store)) (h .course .below) d (h .row .stage) (h .row .buffer) (h .row .stored) (h .row .unit .buffer) (h .row .unit .buffered) request (h .row .stands) quiet (h .row .unit .holding) in
       let unit : Device = unitAt (u .link) (u .own) (length (u .file)) (h .row .stored) (a .buffer) (a .buffered) (isPending (arrivedBuffer (h .row .stage) (h .row .buffer))) in
       fits-output (u .link) (receive (w .device) (length (w .store)) (w .request)) (answers unit) (a .serves .bytes) (rw (h .row .unit .device) (a .serves .gives)) (a .serves .short)
 
   pub hears-free : (b : List ℕ) → isRefused (u .file) w (hears shared b) ≡ false
-  unfolding isRefused lent hear sameFile checked isRefusal require
+  unfolding isRefused callCheck lent hear sameFile checked isFailed answerCheck require
   hears-free b = rw (h .sends, eq-eqb (length (u .file)) (length (u .file)) refl)
 
 -- The same of a round's calls after the sender's end.
 module _ (u : Upload) (w : World) (past : List Bool) (marks : ℕ → Mark) (over : isRunning (w .sender .state) ≡ false) where
   pub ended-works-free : Invariant u w past marks between → isRefused (u .file) w (works shared) ≡ false
-  unfolding isRefused lent
+  unfolding isRefused callCheck lent
   ended-works-free (runs h) = absurd (let z : _≡_ {A = ℕ} 0 1 = cc (rw (h .sends) at over) in omega arith)
   ended-works-free (gaveUp h) = work-free u (h .row .stored) (h .row .buffer) (w .device) (w .store) marks (h .row .unit)
   ended-works-free (done h) = work-free u (frames u) free (w .device) (w .store) marks (h .unit)
 
   pub ended-asks-free : isRefused (u .file) w (asks shared output) ≡ false
-  unfolding isRefused isRefusal within after require request
+  unfolding isRefused callCheck isFailed answerCheck within after require request
   ended-asks-free = rw over
 
 -- A sender that runs writes a request, and the exchange follows; one that has ended writes none.

@@ -8,7 +8,7 @@ use native.Mathlib.Omega.{arith}
 use borrow.Author.Tests.{eq-eqb, ne-eqb}
 use lib.Dec.{eqb}
 use lib.ListN.{length, getD, take, drop, replicate}
-use Rattle.message.specs.Answer.{given, require}
+use Rattle.message.specs.Answer.{given, require, about}
 use Rattle.message.specs.Checks.{idLegal, payloadLegal, errorLegal, fieldChecks, told}
 use Rattle.message.specs.Kinds.{inside, isEvent}
 use Rattle.message.specs.declared.Kind.{Kind}
@@ -25,7 +25,7 @@ use Rattle.device_rules.specs.Device.{isFinished, frame}
 use Rattle.device_rules.specs.declared.Device.{Device}
 use Rattle.device_rules.specs.declared.Phase.the-variants.{Open, Finished}
 use Rattle.device_rules.specs.Commands.{commandDone, takeDone, frameDone, afterCommand}
-use Rattle.device_rules.specs.Receive.{answers, answerTo, infoBytes, answered, commandAnswer, commandReply, telemetryReply, kindReply, messageReply, receive}
+use Rattle.device_rules.specs.Receive.{answers, answerTo, infoBytes, commandAnswer, commandReply, telemetryReply, kindReply, messageReply, receive}
 use Rattle.upload.specs.Round.{fits, takenError, infoNumber, infoSize, infoChecksum, compared, confirmed, informed, ackMeaning, nackMeaning, infoMeaning, kindMeaning, meaning}
 use Rattle.upload.specs.Sender.{requestKind, requestId}
 use Rattle.upload.specs.declared.Meaning.{Meaning}
@@ -117,11 +117,11 @@ module _ (l : Link) (s t own : ℕ) (a : Addressed l s t own) (file : List ℕ) 
 
   module _ (stage : Stage) (since rounds : ℕ) (b p : List ℕ) (reads : linkRead l b ≡ given (asked stage) p) where
     served : (j : ℕ) (buffer : List ℕ) (buffered : ℕ) (pending : Bool) (d′ : Device) (k : Kind) (e : ℕ) (q : List ℕ) (x : Meaning)
-        → kindReply (requestKind stage) (unitAt l own n j buffer buffered pending) store (asked stage) p ≡ answered d′ (linkWrite l (told-by stage k e) q)
+        → kindReply (requestKind stage) (unitAt l own n j buffer buffered pending) store (asked stage) p ≡ about (answers d′) (linkWrite l (told-by stage k e) q)
         → Plain (told-by stage k e) q
         → kindMeaning k (senderAt l s t n i stage since rounds Running) file (linkCarried l (told-by stage k e)) q ≡ x
         → Served file (senderAt l s t n i stage since rounds Running) (unitAt l own n j buffer buffered pending) store b d′ x
-    unfolding receive messageReply answered meaning fits linkCarried
+    unfolding receive messageReply about meaning fits linkCarried
     served j buffer buffered pending d′ k e q x reply plain means =
         let back = answer-arrives l s t own (asked stage) k e 0 q a plain in
         let id : linkCarried l (told-by stage k e) .id ≡ requestId stage =

@@ -4,6 +4,7 @@ use mathlib.Core.Bool.{Bool, true, false, cond, _&&_}
 use mathlib.Core.List.{List, _++_}
 use mathlib.Core.Path.{_≡_}
 use lib.Dec.{ltb, eqb}
+use native.Mathlib.Omega.{arith}
 use lib.ListN.{length, take, drop}
 use Rattle.message.specs.Answer.{given}
 use Rattle.file.specs.File.{sizeLegal, frameCount, fileFrame}
@@ -23,7 +24,7 @@ use Rattle.upload.specs.Demand.{goodRounds}
 use Rattle.upload.specs.Legal.{Place, begun, asked, arrived, repeated}
 use Rattle.upload.specs.Stored.{Mark, waiting, taken, stored}
 use Rattle.upload.specs.World.{World}
-use Rattle.upload.proofs.Counting.{Lull}
+use Rattle.upload.proofs.Counting.{NoneGood}
 use Rattle.upload.proofs.Exchange.{Addressed, requestRead}
 use Rattle.device_rules.proofs.Faults.{unitAt}
 use Rattle.upload.proofs.Situations.{senderAt}
@@ -74,6 +75,13 @@ steps Back = 1
 steps Compare = 1
 steps Take = 2
 steps Confirm = 3
+
+pub few-steps : (stage : Stage) → steps stage ≤ 3
+few-steps Frame = omega arith
+few-steps Back = omega arith
+few-steps Compare = omega arith
+few-steps Take = omega arith
+few-steps Confirm = omega arith
 
 -- A round whose work step was done does not find the unit still pending at D.
 abbrev pub Quiet : Bool → Stage → Buffer → Type 0
@@ -162,7 +170,7 @@ module _ (u : Upload) where
   pub record Course (frame : ℕ) (stage : Stage) (since : ℕ) (past : List Bool) : Type 0 where
     pub below : frame < frames
     pub few : since < 50
-    pub lull : Lull past since
+    pub noneGood : NoneGood past since
     pub rounds : length past ≤ 50 * (4 * frame + steps stage) + since
     pub good : goodRounds past ≤ 4 * frame + steps stage
 
@@ -179,7 +187,7 @@ module _ (u : Upload) where
     pub row : Row (w .device) (w .store) marks
     pub since : ℕ
     pub sends : w .sender ≡ sender (row .frame) (row .stage) since (length past) GivenUp
-    pub lull : Lull past 50
+    pub noneGood : NoneGood past 50
 
   -- or has finished.
   pub record Finished· (w : World) (past : List Bool) (marks : ℕ → Mark) : Type 0 where

@@ -16,7 +16,7 @@ use Rattle.device_rules.specs.Work.{frameStored, hasRoom, work, storeAfter, aft
 use Rattle.upload.specs.declared.Stage.{Stage}
 use Rattle.upload.specs.declared.Stage.the-variants.{Frame, Back, Compare, Take, Confirm}
 use Rattle.upload.specs.Stored.{Mark, markWorked}
-use Rattle.upload.specs.World.{isRefusal}
+use Rattle.upload.specs.World.{answerCheck, isFailed}
 use Rattle.upload.proofs.Files.{stored-next, size-reached, beginning-length, store-next}
 use Rattle.device_rules.proofs.Faults.{unitAt}
 use Rattle.upload.proofs.Table.{Upload, Buffer, free, loaded, pending, isPending, Stands, Quiet, markOf, frames, UnitAt}
@@ -126,8 +126,8 @@ module _ (u : Upload) where
   work-unit i pending d store marks h = stores-frame i d store marks h
 
   -- It is never refused: the store has room for the file.
-  pub work-free : (i : ℕ) (b : Buffer) (d : Device) (store : List ℕ) (marks : ℕ → Mark) → UnitAt u i b d store marks → isRefusal (work d (length store)) ≡ false
-  unfolding work isRefusal
+  pub work-free : (i : ℕ) (b : Buffer) (d : Device) (store : List ℕ) (marks : ℕ → Mark) → UnitAt u i b d store marks → isFailed (answerCheck (work d (length store))) ≡ false
+  unfolding work isFailed answerCheck
   work-free i free d store marks h = rw (h .device)
   work-free i loaded d store marks h = rw (h .device)
   work-free i pending d store marks h =

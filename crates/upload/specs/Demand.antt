@@ -1,4 +1,5 @@
--- Demand 3, as one statement about a whole list of calls.
+-- Demand 3 (document 01, "The sender and its rounds"), as one statement about a whole list of calls. Quotations that document 01 does not have
+-- are the demand's own words.
 use Prim.Native.Nat.{ℕ, suc, _+_, _*_, _≤_, min}
 use mathlib.Core.Bool.{Bool, true, false}
 use mathlib.Core.List.{List, [], _∷_, _++_}

@@ -4,7 +4,7 @@ use mathlib.Core.Bool.{Bool, true, false, cond, not, _&&_, _||_}
 use mathlib.Core.List.{List}
 use lib.Dec.{ltb, eqb}
 use lib.ListN.{length, getD, take, drop}
-use Rattle.message.specs.Answer.{Answer, refused, given, number}
+use Rattle.message.specs.Answer.{Answer, refused, given}
 use Rattle.message.specs.declared.ErrorByte.{ErrorByte}
 use Rattle.message.specs.declared.ErrorByte.the-variants.{Told, NotTold}
 use Rattle.message.specs.declared.Kind.{Kind}
@@ -15,8 +15,6 @@ use Rattle.checksum.specs.Checksum.{checksum}
 use Rattle.file.specs.File.{frameCount, fileFrame}
 use Rattle.link.specs.Link.{linkRead, carriesAddresses}
 use Rattle.upload.specs.Sender.{requestId, isRunning, sameFile, checked}
-use Rattle.upload.specs.declared.HearAnswer.{HearAnswer}
-use Rattle.upload.specs.declared.HearAnswer.the-variants as HearAnswer·of
 use Rattle.upload.specs.declared.Meaning.{Meaning}
 use Rattle.upload.specs.declared.Meaning.the-variants.{Stay, Forward, Differs, Flagged}
 use Rattle.upload.specs.declared.Sender.{Sender}
@@ -99,7 +97,7 @@ unfoldable pub meaning : Sender → List ℕ → Answer Message (List ℕ) → M
 meaning s file (refused n) = Stay
 meaning s file (given m p) = cond (fits s m) (kindMeaning (m .kind) s file m p) Stay
 
--- The stage behind a stage, where an answer means that, and how many stages of the frame have been arrived at.
+-- The stage that `Forward` leads to; behind D it is A of the next frame.
 abbrev pub nextStage : Stage → Stage
 nextStage Frame = Compare
 nextStage Back = Compare
@@ -107,6 +105,7 @@ nextStage Compare = Take
 nextStage Take = Confirm
 nextStage Confirm = Frame
 
+-- D is the last stage of a frame.
 abbrev pub isLastStage : Stage → Bool
 isLastStage Frame = false
 isLastStage Back = false
@@ -122,7 +121,7 @@ isStep Compare = true
 isStep Take = true
 isStep Confirm = true
 
--- A sender with these in place of its own.
+-- A sender with these in place of its own, and one round more: "rounds used (all it had)". An upload has at most 200 * 65,535, which 32 bits hold.
 abbrev pub changed : Sender → ℕ → Stage → ℕ → State → Sender
 changed s frame stage since state =
     record {
@@ -174,7 +173,3 @@ hear s file b =
     cond (isRunning (s .state))
     (checked (sameFile s file) (roundOver s (meaning s file (linkRead (s .link) b))))
     (given s tt)
-
-unfoldable pub hearTold : HearAnswer → Answer Sender Unit
-hearTold (HearAnswer·of.Refused r) = refused (number r)
-hearTold (HearAnswer·of.Sender s) = given s tt

@@ -4,7 +4,7 @@ use mathlib.Core.Bool.{Bool, true, false, cond, _&&_}
 use mathlib.Core.List.{List, []}
 use lib.Dec.{ltb, eqb}
 use lib.ListN.{length}
-use Rattle.message.specs.Answer.{Answer, Check, refused, given, number, passed, failed, require, after}
+use Rattle.message.specs.Answer.{Answer, Check, refused, given, number, passed, failed, require, after, about}
 use Rattle.message.specs.declared.ErrorByte.the-variants.{Told}
 use Rattle.message.specs.declared.Kind.{Kind}
 use Rattle.message.specs.declared.Kind.the-variants as Kind·of
@@ -19,8 +19,8 @@ use Rattle.upload.specs.declared.RequestAnswer.the-variants as RequestAn
 use Rattle.upload.specs.declared.Sender.{Sender}
 use Rattle.upload.specs.declared.Stage.{Stage}
 use Rattle.upload.specs.declared.Stage.the-variants.{Frame, Back, Compare, Take, Confirm}
-use Rattle.upload.specs.declared.StartAnswer.{StartAnswer}
-use Rattle.upload.specs.declared.StartAnswer.the-variants as StartAnswer·of
+use Rattle.upload.specs.declared.SenderAnswer.{SenderAnswer}
+use Rattle.upload.specs.declared.SenderAnswer.the-variants as SenderAnswer·of
 use Rattle.upload.specs.declared.State.{State}
 use Rattle.upload.specs.declared.State.the-variants.{Running, Finished, GivenUp}
 
@@ -56,9 +56,10 @@ unfoldable pub start : Link → ℕ → ℕ → ℕ → Answer Sender Unit
 start l source destination n =
     checked (require (sizeLegal n) 11 (require (addressesLegal l source destination) 7 passed)) (newSender l source destination n)
 
-unfoldable pub startTold : StartAnswer → Answer Sender Unit
-startTold (StartAnswer·of.Refused r) = refused (number r)
-startTold (StartAnswer·of.Sender s) = given s tt
+-- What the code's answer says, of starting a sender and of its answer call (document 01, "Forms we want to see": "this paper's number and values for each case").
+unfoldable pub senderTold : SenderAnswer → Answer Sender Unit
+senderTold (SenderAnswer·of.Refused r) = refused (number r)
+senderTold (SenderAnswer·of.Sender s) = given s tt
 
 -- What it sends at each stage: "A: sends frame. B: asks frame info. C: sends take frame i. D: asks frame info."
 abbrev pub requestKind : Stage → Kind
@@ -99,27 +100,24 @@ isRunning Finished = false
 isRunning GivenUp = false
 
 -- A request, or nothing: "finished or given up, it sends nothing more".
-pub data Asked : Type 0 where
-  asks : Asked
-  nothing : Asked
-
-unfoldable pub asked : Answer Unit (List ℕ) → Answer Asked (List ℕ)
-asked (refused n) = refused n
-asked (given u b) = given asks b
+pub data Sent : Type 0 where
+  sent : Sent
+  nothing : Sent
 
 -- 11: "a sender that hasn't ended [..] if the file's length has changed". The 8 comes with the lent output, "11 (before 8)".
 unfoldable pub sameFile : Sender → List ℕ → Check
 sameFile s file = require (eqb (length file) (s .length)) 11 passed
 
-unfoldable pub request : Sender → List ℕ → Answer Asked (List ℕ)
+unfoldable pub request : Sender → List ℕ → Answer Sent (List ℕ)
 request s file =
     cond (isRunning (s .state))
-    (after (sameFile s file) (asked (linkWrite (s .link) (requestMessage s) (requestPayload (s .stage) file (s .frame)))))
+    (after (sameFile s file) (about sent (linkWrite (s .link) (requestMessage s) (requestPayload (s .stage) file (s .frame)))))
     (given nothing [])
 
-unfoldable pub requestTold : RequestAnswer → Answer Asked ℕ
+-- The same of the code's answer to asking for a request.
+unfoldable pub requestTold : RequestAnswer → Answer Sent ℕ
 requestTold (RequestAnswer·of.Refused r) = refused (number r)
-requestTold (RequestAnswer·of.Request n) = given asks n
+requestTold (RequestAnswer·of.Request n) = given sent n
 requestTold RequestAnswer·of.Nothing = given nothing 0
 
 -- "It reports frames known stored (those past D)": all before the one that it is at, and that one too once it has finished.

@@ -4,13 +4,13 @@ use Prim.Native.Nat.{ℕ}
 use mathlib.Core.Bool.{Bool, true, false}
 use mathlib.Core.List.{List, [], _∷_}
 use lib.ListN.{length}
-use Rattle.message.specs.Answer.{Answer, refused, given, within}
+use Rattle.message.specs.Answer.{Answer, Check, refused, given, passed, failed, within}
 use Rattle.device_rules.specs.declared.Device.{Device}
 use Rattle.device_rules.specs.Work.{work, storeAfter, afterWork}
 use Rattle.device_rules.specs.Answers.{afterReceive}
 use Rattle.device_rules.specs.Receive.{Reply, receive}
 use Rattle.upload.specs.Round.{hear}
-use Rattle.upload.specs.Sender.{Asked, request}
+use Rattle.upload.specs.Sender.{Sent, request}
 use Rattle.upload.specs.declared.Sender.{Sender}
 
 -- Unit, store and sender, and what is under way between them: the request that the sender wrote last, and the unit's last answer, [] where
@@ -57,7 +57,7 @@ senderOr s (given s′ u) = s′
 abbrev pub workAnswer : World → Lent → Answer Device (List ℕ)
 workAnswer w l = work (w .device) (length (lent l (w .store)))
 
-abbrev pub askAnswer : List ℕ → World → Lent → List ℕ → Answer Asked (List ℕ)
+abbrev pub askAnswer : List ℕ → World → Lent → List ℕ → Answer Sent (List ℕ)
 askAnswer file w l out = within out (request (w .sender) (lent l file))
 
 abbrev pub arriveAnswer : World → List ℕ → Lent → List ℕ → Answer Reply (List ℕ)
@@ -105,13 +105,20 @@ unfoldable pub run : List ℕ → World → List Call → World
 run file w [] = w
 run file w (c ∷ h) = run file (does file w c) h
 
--- A refused call: the function gave a refusal's number.
-unfoldable pub isRefusal : {A B : Type 0} → Answer A B → Bool
-isRefusal (refused n) = true
-isRefusal (given a b) = false
+-- A call's refusal, if it is refused: the function gave a refusal's number.
+unfoldable pub answerCheck : {A B : Type 0} → Answer A B → Check
+answerCheck (refused n) = failed n
+answerCheck (given a b) = passed
+
+unfoldable pub callCheck : List ℕ → World → Call → Check
+callCheck file w (works l) = answerCheck (workAnswer w l)
+callCheck file w (asks l out) = answerCheck (askAnswer file w l out)
+callCheck file w (arrives b l out) = answerCheck (arriveAnswer w b l out)
+callCheck file w (hears l b) = answerCheck (hearAnswer file w l b)
+
+unfoldable pub isFailed : Check → Bool
+isFailed passed = false
+isFailed (failed n) = true
 
 unfoldable pub isRefused : List ℕ → World → Call → Bool
-isRefused file w (works l) = isRefusal (workAnswer w l)
-isRefused file w (asks l out) = isRefusal (askAnswer file w l out)
-isRefused file w (arrives b l out) = isRefusal (arriveAnswer w b l out)
-isRefused file w (hears l b) = isRefusal (hearAnswer file w l b)
+isRefused file w c = isFailed (callCheck file w c)

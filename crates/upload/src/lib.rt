@@ -22,6 +22,7 @@ pub enum Stage {
     Confirm,
 }
 
+// Document 01's "finished or given up"; until then it runs.
 pub enum State {
     Running,
     Finished,
@@ -38,7 +39,7 @@ pub struct Sender {
     // The frame that it is at, from 0, and the stage of it.
     pub frame: u32,
     pub stage: Stage,
-    // The rounds since the last step forward, and all rounds.
+    // While it runs, the rounds since the last step forward; and all rounds.
     pub since: u8,
     pub rounds: u32,
     pub state: State,
@@ -71,12 +72,6 @@ pub enum Meaning {
     Flagged,
 }
 
-// The answer of starting a sender.
-pub enum StartAnswer {
-    Sender(Sender),
-    Refused(Refusal),
-}
-
 // The answer of asking for a request: its length at the start of the lent output, or nothing once the sender has ended. A refusal leaves
 // the output as it came.
 pub enum RequestAnswer {
@@ -85,8 +80,8 @@ pub enum RequestAnswer {
     Refused(Refusal),
 }
 
-// The answer of handing over an answer: the sender afterwards. A refusal leaves it as it came.
-pub enum HearAnswer {
+// The answer of `start` and of `hear`: the sender afterwards. A refusal leaves it as it came.
+pub enum SenderAnswer {
     Sender(Sender),
     Refused(Refusal),
 }

@@ -11,7 +11,7 @@ use message::WriteAnswer;
 use upload::Fate;
 use upload::Round;
 use upload::Sender;
-use upload::StartAnswer;
+use upload::SenderAnswer;
 use upload::State;
 
 const SENDER: u8 = 1;
@@ -47,8 +47,8 @@ fn upload(link: Link, course: Course, file: &[u8], store: &mut [u8]) {
         return start_only(link, file.len());
     };
     match sender::start(link, SENDER, UNIT, length(file.len())) {
-        StartAnswer::Refused(refusal) => print::refused(refusal),
-        StartAnswer::Sender(first) => to_the_end(unit, first, course, file, store),
+        SenderAnswer::Refused(refusal) => print::refused(refusal),
+        SenderAnswer::Sender(first) => to_the_end(unit, first, course, file, store),
     }
 }
 
@@ -60,8 +60,8 @@ fn to_the_end(unit: Device, first: Sender, course: Course, file: &[u8], store: &
 // The start alone, where the unit is not open.
 fn start_only(link: Link, size: usize) {
     match sender::start(link, SENDER, UNIT, length(size)) {
-        StartAnswer::Refused(refusal) => print::refused(refusal),
-        StartAnswer::Sender(_) => print::text(b"started\n"),
+        SenderAnswer::Refused(refusal) => print::refused(refusal),
+        SenderAnswer::Sender(_) => print::text(b"started\n"),
     }
 }
 

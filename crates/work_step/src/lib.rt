@@ -4,28 +4,28 @@ ghost use mathlib.Core.Bool.{cond};
 ghost use mathlib.Core.Path.{_≡_};
 ghost use lib.Dec.{eqb};
 ghost use lib.ListN.{length};
-ghost use Rattle.device_rules.specs.Device.{frame, stepTold};
+ghost use Rattle.device_rules.specs.Device.{frame, unitTold};
 ghost use Rattle.device_rules.specs.Work.{frameStored, hasRoom, work, worked, afterWork, storeAfter};
 use device_rules::Device;
 use device_rules::Phase;
-use device_rules::Stepped;
+use device_rules::UnitAnswer;
 use message::Refusal;
 use message::Verdict;
 
 // Stores a pending frame; with nothing pending it does nothing.
-pub fn work(device: Device, store: &mut [u8]) -> Stepped
-    ensures { λ r. ⌜ stepTold (r .verdict) (r .device) ≡ worked (work device (length (now (store .entry)))) ⌝ }
+pub fn work(device: Device, store: &mut [u8]) -> UnitAnswer
+    ensures { λ r. ⌜ unitTold (r .verdict) (r .device) ≡ worked (work device (length (now (store .entry)))) ⌝ }
     ensures { λ r. ⌜ r .device ≡ afterWork device (work device (length (now (store .entry)))) ⌝ }
     ensures { λ _. ⌜ now (store .exit) ≡ storeAfter device (work device (length (now (store .entry)))) (now (store .entry)) ⌝ }
 {
     if !device.pending {
-        return Stepped {
+        return UnitAnswer {
             device,
             verdict: Verdict::Passed,
         };
     }
     if !has_room(device, store.len()) {
-        return Stepped {
+        return UnitAnswer {
             device,
             verdict: Verdict::Refused(Refusal::OutputTooShort),
         };
@@ -35,7 +35,7 @@ pub fn work(device: Device, store: &mut [u8]) -> Stepped
     let buffer = device.buffer;
     // There is room, so nothing is refused here.
     output::lay(&buffer[..length], &mut store[at..]);
-    Stepped {
+    UnitAnswer {
         device: frame_stored(device),
         verdict: Verdict::Passed,
     }

@@ -1,16 +1,16 @@
 -- Carried by the test of the address.
 use mathlib.Core.Path.{refl}
 use borrow.Author.Tests.{eq-eqb, ne-eqb}
-use Rattle.device_rules.specs.Device.{newDevice, make, stepTold}
+use Rattle.device_rules.specs.Device.{newDevice, make, unitTold}
 use Rattle.device_state.proofs.make.Statement.{statement}
 use Rattle.device_state.proofs.make.Tie as tie
 
 returns : tie.Need-returns
-unfolding stepTold make newDevice
+unfolding unitTold make newDevice
 returns c = (rw (eq-eqb _ 0 (c .if1 .taken)), refl)
 
 returns-2 : tie.Need-returns-2
-unfolding stepTold make newDevice
+unfolding unitTold make newDevice
 returns-2 c = (rw (ne-eqb _ 0 (c .if1 .left)), refl)
 
 pub make-spec : {M : Type 1} → statement M

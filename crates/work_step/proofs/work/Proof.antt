@@ -9,7 +9,7 @@ use lib.ListN.{length}
 use lib.Seq.{length-take-le}
 use Rattle.message.proofs.Parts.{part-from, put-from}
 use Rattle.device_rules.specs.Work.{hasRoom}
-use Rattle.device_rules.proofs.Buffers.{buffer-length, frame-most, frame-taken}
+use Rattle.device_rules.proofs.Buffers.{buffer-length, frame-most, frame-of-buffer}
 use Rattle.device_rules.proofs.Works.{idle-gives, short-gives, room, stored-gives}
 use borrow.Author.Needs.{needs}
 use Rattle.work_step.proofs.work.Statement.{statement}
@@ -64,7 +64,7 @@ same-length c = search needs
 returns-3 : tie.Need-returns-3
 returns-3 c =
     let d = c .before .before .before .before .before .before .before .before .before .before .before .before .before .before .args .device in
-    let e = rw (part-from, c .before .before .before .before .before .before .before .frame-length .ensures, frame-taken d) at (c .before .before .before .lay .ensures) in
+    let e = rw (part-from, c .before .before .before .before .before .before .before .frame-length .ensures, frame-of-buffer d) at (c .before .before .before .lay .ensures) in
     rw (put-from _ _ _ (starts (c .before .before .before .before .before .before .before .before .before)), c .frame-stored .ensures) (stored-gives _ _ _ (not-false _ (c .before .before .before .before .before .before .before .before .before .before .before .if1 .left)) (roomy (c .before .before .before .before .before .before .before .before .before)) (e .1))
 
 pub work-spec : {M : Type 1} → statement M

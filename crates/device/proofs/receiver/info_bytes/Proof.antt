@@ -6,7 +6,7 @@ use lib.ListN.{length}
 use lib.Seq.{length-take-le}
 use Rattle.little_endian.specs.LittleEndian.{toBytes}
 use Rattle.device_rules.specs.Receive.{infoBytes}
-use Rattle.device_rules.proofs.Buffers.{buffer-length, frame-most, frame-taken}
+use Rattle.device_rules.proofs.Buffers.{buffer-length, frame-most, frame-of-buffer}
 use borrow.Author.Needs.{needs}
 use Rattle.device.proofs.receiver.info_bytes.Statement.{statement}
 use Rattle.device.proofs.receiver.info_bytes.Tie as tie
@@ -62,7 +62,7 @@ flags-requires c κs = search needs
 returns : tie.Need-returns
 unfolding infoBytes toBytes
 returns c =
-    rw (c .before .before .before .before .before .u16-to-bytes .ensures, c .before .before .before .before .u16-to-bytes2 .ensures, c .before .u16-to-bytes3 .ensures, c .before .before .checksum .ensures, c .before .before .before .before .before .before .frame-length .ensures, frame-taken (c .before .before .before .before .before .before .before .before .args .device), c .flags .ensures)
+    rw (c .before .before .before .before .before .u16-to-bytes .ensures, c .before .before .before .before .u16-to-bytes2 .ensures, c .before .u16-to-bytes3 .ensures, c .before .before .checksum .ensures, c .before .before .before .before .before .before .frame-length .ensures, frame-of-buffer (c .before .before .before .before .before .before .before .before .args .device), c .flags .ensures)
 
 pub info-bytes-spec : {M : Type 1} → statement M
 info-bytes-spec =

@@ -1,9 +1,9 @@
 -- Carried by what the writer answers, in each of its cases.
 use mathlib.Core.Path.{refl}
 use borrow.Author.Needs.{needs}
-use Rattle.message.specs.Answer.{writeTold}
+use Rattle.message.specs.Answer.{writeTold, about}
 use Rattle.upload.specs.Sender.{requestTold}
-use Rattle.sender.proofs.Requests.{retold, asked-told, asked-laid}
+use Rattle.message.proofs.Answers.{about-told, about-laid}
 use Rattle.sender.proofs.requester.send.Statement.{statement}
 use Rattle.sender.proofs.requester.send.Tie as tie
 
@@ -20,15 +20,15 @@ same-length : tie.Need-same-length
 same-length c = search needs
 
 returns : tie.Need-returns
-unfolding writeTold requestTold retold
-returns c = let e = rw (c .before .n .given .1) at (c .before .before .before .before .before .write .ensures) in rw (asked-told, asked-laid, ← e .0) (refl, e .1)
+unfolding writeTold requestTold about
+returns c = let e = rw (c .before .n .given .1) at (c .before .before .before .before .before .write .ensures) in rw (about-told, about-laid, ← e .0) (refl, e .1)
 
 same-length-2 : tie.Need-same-length-2
 same-length-2 c = search needs
 
 returns-2 : tie.Need-returns-2
-unfolding writeTold requestTold retold
-returns-2 c = let e = rw (c .before .refusal .given .1) at (c .before .before .before .before .before .write .ensures) in rw (asked-told, asked-laid, ← e .0) (refl, e .1)
+unfolding writeTold requestTold about
+returns-2 c = let e = rw (c .before .refusal .given .1) at (c .before .before .before .before .before .write .ensures) in rw (about-told, about-laid, ← e .0) (refl, e .1)
 
 pub send-spec : {M : Type 1} → statement M
 send-spec =
