@@ -83,7 +83,7 @@ refusal-leaves (refused k) n out e = refl
 refusal-leaves (given a b) n out e = let z : _≡_ {A = ℕ} 0 1 = cc in absurd (omega arith)
 
 -- An answer behind checks is given exactly where they pass.
-pub after-given : {A : Type 0} (c : Check) (a a′ : A) (b b′ : List ℕ) → after c (given a b) ≡ given a′ b′ → (c ≡ passed) × (a ≡ a′) × (b ≡ b′)
+pub after-given : {A B : Type 0} (c : Check) (a a′ : A) (b b′ : B) → after c (given a b) ≡ given a′ b′ → (c ≡ passed) × (a ≡ a′) × (b ≡ b′)
 unfolding after
 after-given passed a a′ b b′ e = (refl, cc, cc)
 after-given (failed n) a a′ b b′ e = absurd (let z : _≡_ {A = ℕ} 0 1 = cc in omega arith)

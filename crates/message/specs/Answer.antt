@@ -44,12 +44,12 @@ pub data Answer (A B : Type 0) : Type 0 where
   refused : ℕ → Answer A B
   given : A → B → Answer A B
 
-module _ {A : Type 0} where
-  -- The answer where the checks pass.
-  unfoldable pub after : Check → Answer A (List ℕ) → Answer A (List ℕ)
-  after passed a = a
-  after (failed n) a = refused n
+-- The answer where the checks pass.
+unfoldable pub after : {A B : Type 0} → Check → Answer A B → Answer A B
+after passed a = a
+after (failed n) a = refused n
 
+module _ {A : Type 0} where
   -- 8: the lent output is shorter than the answer. It is looked at last.
   unfoldable pub within : List ℕ → Answer A (List ℕ) → Answer A (List ℕ)
   unfolding require after

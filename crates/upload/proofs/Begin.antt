@@ -8,7 +8,8 @@ use native.Mathlib.Omega.{arith}
 use borrow.Author.Tests.{ltb-true, ltb-false, le-ltb, ne-eqb}
 use lib.Dec.{ltb}
 use lib.ListN.{length}
-use Rattle.message.specs.Answer.{Answer, Check, refused, given, passed, failed, require, about}
+use Rattle.message.proofs.Answers.{after-given}
+use Rattle.message.specs.Answer.{Answer, refused, given, passed, require, about}
 use Rattle.message.proofs.Checks.{require-passed, both-true}
 use Rattle.little_endian.specs.LittleEndian.{fromBytes}
 use Rattle.file.specs.File.{sizeLegal, frameCount}
@@ -21,8 +22,7 @@ use Rattle.device_rules.specs.declared.Fault.{Fault}
 use Rattle.device_rules.specs.declared.Fault.the-variants.{None}
 use Rattle.device_rules.specs.Commands.{setupDone, commandDone, afterCommand}
 use Rattle.device_rules.specs.Receive.{Reply, answers, silent, isTaken, commandReply, kindReply, messageReply, receive}
-use Rattle.upload.specs.Sender.{newSender, addressesLegal, checked, start}
-use Rattle.upload.specs.declared.Sender.{Sender}
+use Rattle.upload.specs.Sender.{newSender, addressesLegal, start}
 use Rattle.upload.specs.declared.Stage.the-variants.{Frame}
 use Rattle.upload.specs.Demand.{Start, goodRounds}
 use Rattle.upload.specs.Legal.{between}
@@ -35,11 +35,6 @@ use Rattle.device_rules.proofs.Faults.{unitAt}
 use Rattle.upload.proofs.Table.{Upload, free, markOf, Invariant, runs}
 
 -- A started sender: its checks passed.
-checked-given : (c : Check) (s s′ : Sender) → checked c s ≡ given s′ tt → (c ≡ passed) × (s ≡ s′)
-unfolding checked
-checked-given passed s s′ e = (refl, cc)
-checked-given (failed n) s s′ e = absurd (let z : _≡_ {A = ℕ} 0 1 = cc in omega arith)
-
 pub addresses : (l : Link) (s t own : ℕ) → addressesLegal l s t ≡ true → (l ≡ Rs485 → t ≡ own) → Addressed l s t own
 unfolding addressesLegal
 addresses Uart s t own h e = tt
@@ -101,7 +96,7 @@ module _ (file : List ℕ) (w : World) (st : Start file w) where
   sender-checks : (require (sizeLegal (length file)) 11 (require (addressesLegal (st .unit .link) (st .source) (st .destination)) 7 passed) ≡ passed)
       × (newSender (st .unit .link) (st .source) (st .destination) (length file) ≡ w .sender)
   unfolding start
-  sender-checks = checked-given _ _ (w .sender) (st .started)
+  sender-checks = let g = after-given _ _ (w .sender) tt tt (st .started) in (g .0, g .1)
 
   pub size-check : (sizeLegal (length file) ≡ true) × (addressesLegal (st .unit .link) (st .source) (st .destination) ≡ true)
   size-check =

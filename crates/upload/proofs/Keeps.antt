@@ -6,13 +6,13 @@ use mathlib.Core.Path.{_≡_, refl, ap, _∙_}
 use native.Mathlib.Omega.{arith}
 use borrow.Author.Tests.{eq-eqb}
 use lib.ListN.{length}
-use Rattle.message.specs.Answer.{given, require}
+use Rattle.message.specs.Answer.{given, require, after}
 use Rattle.link.specs.Link.{linkRead}
 use Rattle.device_rules.specs.declared.Device.{Device}
 use Rattle.device_rules.specs.Answers.{afterReceive}
 use Rattle.device_rules.specs.Receive.{answers, receive}
 use Rattle.upload.specs.Round.{meaning, roundOver, hear}
-use Rattle.upload.specs.Sender.{isRunning, checked, sameFile}
+use Rattle.upload.specs.Sender.{isRunning, sameFile}
 use Rattle.upload.specs.declared.Meaning.{Meaning}
 use Rattle.upload.specs.declared.Meaning.the-variants.{Stay, Forward}
 use Rattle.upload.specs.declared.State.the-variants.{Running}
@@ -142,7 +142,7 @@ module _ (u : Upload) (w : World) (past : List Bool) (marks : ℕ → Mark) wher
   -- The sender's answer call, with bytes that mean x to it.
   hears-as : (p : Place) (h : Running· u p w past marks) (b : List ℕ) (x : Meaning) → meaning (w .sender) (u .file) (linkRead (u .link) b) ≡ x
       → does (u .file) w (hears shared b) ≡ handed u w past marks (roundOver (sender u (h .row .frame) (h .row .stage) (h .since) (length past) Running) x)
-  unfolding does lent hear sameFile checked senderOr require
+  unfolding does lent hear sameFile after senderOr require
   hears-as p h b x e = rw (h .sends, eq-eqb (length (u .file)) (length (u .file)) refl) (ap (λ (m : Meaning). handed u w past marks (roundOver (sender u (h .row .frame) (h .row .stage) (h .since) (length past) Running) m)) (rw (h .sends) at e))
 
   -- A round in which nothing comes back, and one in which an answer does.

@@ -13,7 +13,7 @@ use Rattle.link.specs.declared.Link.the-variants.{Uart, Rs485, Can, Csp}
 use Rattle.device_rules.specs.declared.Device.{Device}
 use Rattle.device_rules.specs.Receive.{answers, receive}
 use Rattle.upload.specs.Round.{hear}
-use Rattle.upload.specs.Sender.{isRunning, checked, sent, sameFile, request}
+use Rattle.upload.specs.Sender.{isRunning, sent, sameFile, request}
 use Rattle.upload.specs.Legal.{Place, begun, asked, arrived, repeated, between, Legal, stops, workDone, requestMade, requestArrives, requestRepeats, delivered, requestLost, answerLost, twice, endedWorks, endedAsks}
 use Rattle.upload.specs.Schedule.{comesBack, isGood, goods, output, exchange, requested, roundCalls, scheduled, Realised, EverySchedule}
 use Rattle.upload.specs.declared.Fate.{Fate}
@@ -59,7 +59,7 @@ module _ (u : Upload) (w : World) (past : List Bool) (marks : ℕ → Mark) (p :
       fits-output (u .link) (receive (w .device) (length (w .store)) (w .request)) (answers unit) (a .serves .bytes) (rw (h .row .unit .device) (a .serves .gives)) (a .serves .short)
 
   pub hears-free : (b : List ℕ) → isRefused (u .file) w (hears shared b) ≡ false
-  unfolding isRefused callCheck lent hear sameFile checked isFailed answerCheck require
+  unfolding isRefused callCheck lent hear sameFile after isFailed answerCheck require
   hears-free b = rw (h .sends, eq-eqb (length (u .file)) (length (u .file)) refl)
 
 -- The same of a round's calls after the sender's end.

@@ -4,7 +4,7 @@ use mathlib.Core.Bool.{Bool, true, false, cond, not, _&&_, _||_}
 use mathlib.Core.List.{List}
 use lib.Dec.{ltb, eqb}
 use lib.ListN.{length, getD, take, drop}
-use Rattle.message.specs.Answer.{Answer, refused, given}
+use Rattle.message.specs.Answer.{Answer, refused, given, after}
 use Rattle.message.specs.declared.ErrorByte.{ErrorByte}
 use Rattle.message.specs.declared.ErrorByte.the-variants.{Told, NotTold}
 use Rattle.message.specs.declared.Kind.{Kind}
@@ -14,7 +14,7 @@ use Rattle.little_endian.specs.LittleEndian.{fromBytes}
 use Rattle.checksum.specs.Checksum.{checksum}
 use Rattle.file.specs.File.{frameCount, fileFrame}
 use Rattle.link.specs.Link.{linkRead, carriesAddresses}
-use Rattle.upload.specs.Sender.{requestId, isRunning, sameFile, checked}
+use Rattle.upload.specs.Sender.{requestId, isRunning, sameFile}
 use Rattle.upload.specs.declared.Meaning.{Meaning}
 use Rattle.upload.specs.declared.Meaning.the-variants.{Stay, Forward, Differs, Flagged}
 use Rattle.upload.specs.declared.Sender.{Sender}
@@ -171,5 +171,5 @@ roundOver s Flagged = changed s (s .frame) (s .stage) (s .since) GivenUp
 unfoldable pub hear : Sender → List ℕ → List ℕ → Answer Sender Unit
 hear s file b =
     cond (isRunning (s .state))
-    (checked (sameFile s file) (roundOver s (meaning s file (linkRead (s .link) b))))
+    (after (sameFile s file) (given (roundOver s (meaning s file (linkRead (s .link) b))) tt))
     (given s tt)

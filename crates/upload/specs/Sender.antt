@@ -4,7 +4,7 @@ use mathlib.Core.Bool.{Bool, true, false, cond, _&&_}
 use mathlib.Core.List.{List, []}
 use lib.Dec.{ltb, eqb}
 use lib.ListN.{length}
-use Rattle.message.specs.Answer.{Answer, Check, refused, given, number, passed, failed, require, after, about}
+use Rattle.message.specs.Answer.{Answer, Check, refused, given, number, passed, require, after, about}
 use Rattle.message.specs.declared.ErrorByte.the-variants.{Told}
 use Rattle.message.specs.declared.Kind.{Kind}
 use Rattle.message.specs.declared.Kind.the-variants as Kind·of
@@ -46,15 +46,10 @@ addressesLegal Rs485 s t = ltb 0 s && ltb 0 t
 addressesLegal Can s t = true
 addressesLegal Csp s t = true
 
--- The sender where the checks pass.
-unfoldable pub checked : Check → Sender → Answer Sender Unit
-checked passed s = given s tt
-checked (failed n) s = refused n
-
 -- "Starting a sender is refused with 11, then on RS485 with 7 for a source or destination of 0."
 unfoldable pub start : Link → ℕ → ℕ → ℕ → Answer Sender Unit
 start l source destination n =
-    checked (require (sizeLegal n) 11 (require (addressesLegal l source destination) 7 passed)) (newSender l source destination n)
+    after (require (sizeLegal n) 11 (require (addressesLegal l source destination) 7 passed)) (given (newSender l source destination n) tt)
 
 -- What the code's answer says, of starting a sender and of its answer call (document 01, "Forms we want to see": "this paper's number and values for each case").
 unfoldable pub senderTold : SenderAnswer → Answer Sender Unit

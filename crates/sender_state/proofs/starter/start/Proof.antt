@@ -1,8 +1,8 @@
 -- Carried by the checks in their order.
 use borrow.Author.Needs.{needs}
 use borrow.Author.Tests.{not-true, not-false}
-use Rattle.message.specs.Answer.{require}
-use Rattle.upload.specs.Sender.{newSender, checked, start, senderTold}
+use Rattle.message.specs.Answer.{require, after}
+use Rattle.upload.specs.Sender.{newSender, start, senderTold}
 use Rattle.sender_state.proofs.starter.start.Statement.{statement}
 use Rattle.sender_state.proofs.starter.start.Tie as tie
 
@@ -10,18 +10,18 @@ size-legal-requires : tie.Need-size-legal-requires
 size-legal-requires c κs = search needs
 
 returns : tie.Need-returns
-unfolding start senderTold checked require newSender
+unfolding start senderTold after require newSender
 returns c = rw (← c .before .size-legal .ensures, not-true (c .before .size-legal .result) (c .if1 .taken))
 
 addresses-legal-requires : tie.Need-addresses-legal-requires
 addresses-legal-requires c κs = search needs
 
 returns-2 : tie.Need-returns-2
-unfolding start senderTold checked require newSender
+unfolding start senderTold after require newSender
 returns-2 c = rw (← c .before .before .before .size-legal .ensures, not-false (c .before .before .before .size-legal .result) (c .before .before .if1 .left), ← c .before .addresses-legal .ensures, not-true (c .before .addresses-legal .result) (c .if2 .taken))
 
 returns-3 : tie.Need-returns-3
-unfolding start senderTold checked require newSender
+unfolding start senderTold after require newSender
 returns-3 c = rw (← c .before .before .before .size-legal .ensures, not-false (c .before .before .before .size-legal .result) (c .before .before .if1 .left), ← c .before .addresses-legal .ensures, not-false (c .before .addresses-legal .result) (c .if2 .left))
 
 pub start-spec : {M : Type 1} → statement M
