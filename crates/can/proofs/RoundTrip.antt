@@ -10,13 +10,13 @@ use lib.ListN.{length, getD, take, drop, length-append, length-drop, take-append
 use lib.Seq.{length-take-le}
 use Rattle.message.specs.Answer.{Answer, refused, given, passed, require, after, written}
 use Rattle.message.specs.Checks.{idLegal, errorLegal, fieldChecks, payloadLegal, writable, writeChecks}
-use Rattle.message.specs.Kinds.{inside, isAck, isEvent, isNack, typeNumber}
+use Rattle.message.specs.Kinds.{inside, isAck, isEvent, isNack, typeNumber, errorCarried, indexCarried, carriedOn}
 use Rattle.message.specs.declared.Kind.{Kind}
 use Rattle.message.specs.declared.Kind.the-variants.{Telecommand, TelecommandAck, TelecommandNack, TelemetryRequest, TelemetryResponse, TelemetryNack, Event}
 use Rattle.message.specs.declared.Message.{Message}
 use Rattle.message.proofs.Answers.{after-given}
 use Rattle.message.proofs.Checks.{require-passed, both-true, fields-passed, fields-pass}
-use Rattle.can.specs.Can.{seriesType, kindOfType, identifier, frame, inSeries, series, framesBehind, canBytes, canCarries, canWrite, typeLegal, firstFits, laterFits, prepend, laterFrames, allFrames, canError, canMessage, canIdLegal, canFits, complete, canRead, canCarried}
+use Rattle.can.specs.Can.{seriesType, kindOfType, identifier, frame, inSeries, series, framesBehind, canBytes, canCarries, canWrite, typeLegal, firstFits, laterFits, prepend, laterFrames, allFrames, canError, canMessage, canIdLegal, canFits, complete, canRead}
 use Rattle.can.proofs.Frames.{later-frame, first-frame, single-frame}
 use Rattle.can.proofs.Series.{single-type, series-type, single-back, series-all-back}
 
@@ -93,16 +93,16 @@ unfolding series frame
 series-fields a b c t zero p = (refl, refl, refl, refl)
 series-fields a b c t (suc n) p = (refl, refl, refl, refl)
 
--- Reading what was written returns every carried field and the payload.
-pub bytes-read : (m : Message) (p : List ℕ) → idLegal (m .kind) (m .id) ≡ true → payloadLegal (m .kind) (length p) ≡ true → canRead (canBytes m p) ≡ given (canCarried m) p
-unfolding canRead canBytes framesBehind identifier canCarried frame
+-- Reading what was written returns every carried field and the payload. CAN carries the addresses, and nothing that tells the error.
+pub bytes-read : (m : Message) (p : List ℕ) → idLegal (m .kind) (m .id) ≡ true → payloadLegal (m .kind) (length p) ≡ true → canRead (canBytes m p) ≡ given (carriedOn true false m) p
+unfolding canRead canBytes framesBehind identifier canError carriedOn errorCarried indexCarried frame
 bytes-read m p legal fits = by (inSeries (m .kind) (length p)) refl
   where
     -- the ID as it is written
     id : ℕ
     id = getD (identifier 0 m) 2 0
 
-    by : (b : Bool) → inSeries (m .kind) (length p) ≡ b → canRead (canBytes m p) ≡ given (canCarried m) p
+    by : (b : Bool) → inSeries (m .kind) (length p) ≡ b → canRead (canBytes m p) ≡ given (carriedOn true false m) p
     by true q =
         let s = series-kind (m .kind) (length p) fits q in
         let f = series-fields (m .destination) (m .source) id (seriesType (m .kind)) (length p / 7) p in
@@ -113,7 +113,7 @@ bytes-read m p legal fits = by (inSeries (m .kind) (length p)) refl
         rw (q, single-frame (m .destination) (m .source) id (typeNumber (m .kind)) p (s .5) (s .0) (s .1) (s .3))
         (complete-given _ _ _ id (typeNumber (m .kind)) p (m .kind) refl refl refl refl (s .2) (can-id (m .kind) (m .id) legal) (s .4))
 
-pub written-reads : (m : Message) (p b : List ℕ) → canWrite m p ≡ written b → canRead b ≡ given (canCarried m) p
+pub written-reads : (m : Message) (p b : List ℕ) → canWrite m p ≡ written b → canRead b ≡ given (carriedOn true false m) p
 unfolding canWrite writeChecks
 written-reads m p b e =
     let g = after-given (writeChecks canCarries m (length p)) tt tt (canBytes m p) b e in

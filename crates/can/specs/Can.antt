@@ -182,15 +182,3 @@ complete b (given rest p) =
 
 unfoldable pub canRead : List ℕ → Answer Message (List ℕ)
 canRead b = complete b (allFrames b)
-
--- Every field that CAN and the kind carry: the addresses, an event's ID as 255; a nack is "not told".
-unfoldable pub canCarried : Message → Message
-canCarried m =
-    record {
-      kind = m .kind;
-      id = cond (isEvent (m .kind)) 255 (m .id);
-      source = m .source;
-      destination = m .destination;
-      error = canError (m .kind);
-      index = 0;
-    }

@@ -1,37 +1,39 @@
 -- Both round trips of CSP (demand 2): those of the data, behind the type and the ID.
 use Prim.Native.Nat.{ℕ, _≤_}
+use mathlib.Core.Bool.{true, false}
 use mathlib.Core.List.{List, [], _∷_, _++_}
-use mathlib.Core.Path.{_≡_, refl, ap, sym}
+use mathlib.Core.Path.{_≡_, refl, ap, sym, _∙_}
 use native.Mathlib.Omega.{arith}
 use borrow.Author.Tests.{le-leb}
 use lib.ListN.{length}
 use Rattle.message.specs.Answer.{given, passed, require, after, written}
 use Rattle.message.specs.Body.{bodyBytes, bodyMessage, bodyRead}
 use Rattle.message.specs.Checks.{writable, writeChecks}
-use Rattle.message.specs.Kinds.{typeNumber, typeKind, carried}
+use Rattle.message.specs.Kinds.{typeNumber, typeKind, carriedOn}
 use Rattle.message.specs.declared.Kind.{Kind}
 use Rattle.message.specs.declared.Message.{Message}
 use Rattle.message.specs.declared.TypeKind.{TypeKind}
 use Rattle.message.specs.declared.TypeKind.the-variants.{Known, Unknown}
 use Rattle.message.proofs.Answers.{after-given}
-use Rattle.message.proofs.Bodies.{at, body-written, body-read}
+use Rattle.message.proofs.Bodies.{body-written, body-read}
 use Rattle.message.proofs.Checks.{require-passed, plain-writable, writable-plain}
 use Rattle.message.proofs.Tables.{kind-of-type, type-of-kind}
-use Rattle.csp.specs.Csp.{cspCarries, cspTyped, cspRead, cspHead, cspWrite, cspCarried}
+use Rattle.csp.specs.Csp.{cspCarries, cspTyped, cspRead, cspHead, cspWrite}
 
--- Reading what was written returns every carried field and the payload.
-pub written-reads : (m : Message) (p b : List ℕ) → cspWrite m p ≡ written b → cspRead b ≡ given (cspCarried m) p
-unfolding cspWrite cspRead cspTyped cspHead cspCarried carried bodyBytes writeChecks require after
+-- Reading what was written returns every carried field and the payload. CSP carries no addresses.
+pub written-reads : (m : Message) (p b : List ℕ) → cspWrite m p ≡ written b → cspRead b ≡ given (carriedOn false true m) p
+unfolding cspWrite cspRead cspTyped cspHead carriedOn bodyBytes writeChecks require after
 written-reads m p b e =
     let g = after-given (writeChecks cspCarries m (length p)) tt tt (cspHead m ++ p) b e in
     let w = require-passed (writable cspCarries m) 9 _ (g .0) in
     let l = plain-writable m (w .0) in
     let two : 2 ≤ length (cspHead m ++ p) = omega arith in
-    rw (← g .2, le-leb _ _ two, kind-of-type (m .kind) (l .0)) (body-written m 0 0 p (w .1) (l .1))
+    let id : m .id ≡ carriedOn false true m .id = rw (l .0) in
+    rw (← g .2, le-leb _ _ two, kind-of-type (m .kind) (l .0)) (ap (λ (i : ℕ). bodyRead (m .kind) i 0 0 (bodyBytes m p)) id ∙ body-written false m p (w .1) (l .1))
 
 -- Writing what was read returns the bytes: first of a known type,
 typed-writes : (t id : ℕ) (d : List ℕ) (m : Message) (p : List ℕ) (k : Kind) → typeKind t ≡ Known k → bodyRead k id 0 0 d ≡ given m p → cspWrite m p ≡ written (t ∷ id ∷ d)
-unfolding cspWrite cspHead bodyBytes bodyMessage carried writeChecks require after
+unfolding cspWrite cspHead bodyBytes bodyMessage writeChecks require after
 typed-writes t id d m p k q e =
     let r = body-read k id 0 0 d m p e in
     let n = type-of-kind t k q in

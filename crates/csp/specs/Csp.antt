@@ -7,7 +7,7 @@ use lib.ListN.{length, getD, drop}
 use Rattle.message.specs.Answer.{Answer, refused, passed, require, after, written}
 use Rattle.message.specs.Body.{bodyRead, errorBytes}
 use Rattle.message.specs.Checks.{writeChecks}
-use Rattle.message.specs.Kinds.{typeNumber, typeKind, carried}
+use Rattle.message.specs.Kinds.{typeNumber, typeKind}
 use Rattle.message.specs.declared.Carries.{Carries}
 use Rattle.message.specs.declared.Message.{Message}
 use Rattle.message.specs.declared.TypeKind.{TypeKind}
@@ -33,9 +33,3 @@ cspHead m = typeNumber (m .kind) ∷ m .id ∷ errorBytes m
 -- "Refusal numbers", writing: 9, 5, 6, 7. The 8 comes with the lent output.
 unfoldable pub cspWrite : Message → List ℕ → Answer Unit (List ℕ)
 cspWrite m p = after (writeChecks cspCarries m (length p)) (written (cspHead m ++ p))
-
--- Every field that CSP and the kind carry; the others are 0.
-unfoldable pub cspCarried : Message → Message
-cspCarried m =
-    let c = carried m in
-    record { kind = c .kind; id = c .id; source = 0; destination = 0; error = c .error; index = c .index }

@@ -1,67 +1,29 @@
--- Both round trips of demand 2, over every link: carried by each link's own, and by the table of carried fields.
+-- Both round trips of demand 2, over every link: carried by each link's own.
 use Prim.Native.Nat.{ℕ, _≤_}
 use mathlib.Core.Bool.{false}
 use mathlib.Core.List.{List}
-use mathlib.Core.Path.{_≡_, refl}
+use mathlib.Core.Path.{_≡_}
 use lib.ListN.{length}
 use Rattle.message.specs.Answer.{given, written}
-use Rattle.message.specs.Checks.{writable, writeChecks}
-use Rattle.message.specs.Kinds.{isEvent, carried}
-use Rattle.message.specs.declared.Kind.{Kind}
-use Rattle.message.specs.declared.Kind.the-variants.{Telecommand, TelecommandAck, TelecommandNack, TelemetryRequest, TelemetryResponse, TelemetryNack, Event}
+use Rattle.message.specs.Kinds.{isEvent, carriedOn}
 use Rattle.message.specs.declared.Message.{Message}
-use Rattle.message.proofs.Answers.{after-passed}
-use Rattle.message.proofs.Checks.{require-passed, plain-writable}
-use Rattle.can.specs.Can.{canError, canCarried}
 use Rattle.can.proofs.RoundTrip as can
-use Rattle.csp.specs.Csp.{cspCarries, cspWrite, cspCarried}
 use Rattle.csp.proofs.RoundTrip as csp
-use Rattle.serial.specs.Frames as frames
 use Rattle.serial.specs.declared.SerialLink.the-variants as SerialLink·of
 use Rattle.serial.proofs.RoundTrip as serial
-use Rattle.link.specs.Link.{linkRead, linkWrite, idCarried, addressCarried, errorCarried, indexCarried, linkCarried, mostBytes}
+use Rattle.link.specs.Link.{linkRead, linkWrite, linkCarried, mostBytes}
 use Rattle.link.specs.RoundTrip.{WrittenReads, ReadWrites}
 use Rattle.link.specs.declared.Link.{Link}
 use Rattle.link.specs.declared.Link.the-variants.{Uart, Rs485, Can, Csp}
 use Rattle.link.proofs.Laws.{Legal, within-given, bytes-most, payload-most, legal-writes}
 
--- The table agrees with what each link reads.
-id-of-row : (k : Kind) (id : ℕ) → frames.idCarried (frames.rowOf k) id ≡ idCarried k id
-unfolding frames.idCarried idCarried isEvent
-id-of-row Telecommand id = refl
-id-of-row TelecommandAck id = refl
-id-of-row TelecommandNack id = refl
-id-of-row TelemetryRequest id = refl
-id-of-row TelemetryResponse id = refl
-id-of-row TelemetryNack id = refl
-id-of-row Event id = refl
-
-uart-carried : (m : Message) → frames.frameCarried SerialLink·of.Uart m ≡ linkCarried Uart m
-unfolding frames.frameCarried frames.addressCarried carried linkCarried addressCarried errorCarried indexCarried
-uart-carried m = rw id-of-row
-
-rs485-carried : (m : Message) → frames.frameCarried SerialLink·of.Rs485 m ≡ linkCarried Rs485 m
-unfolding frames.frameCarried frames.addressCarried carried linkCarried addressCarried errorCarried indexCarried
-rs485-carried m = rw id-of-row
-
-can-carried : (m : Message) → canCarried m ≡ linkCarried Can m
-unfolding canCarried canError linkCarried idCarried addressCarried errorCarried indexCarried
-can-carried m = refl
-
--- CSP has no events, so an ID is never that of one.
-csp-carried : (m : Message) (p b : List ℕ) → cspWrite m p ≡ written b → cspCarried m ≡ linkCarried Csp m
-unfolding cspWrite writeChecks cspCarried carried linkCarried idCarried addressCarried errorCarried indexCarried
-csp-carried m p b e =
-    let checks = after-passed (writeChecks cspCarries m (length p)) _ tt b e .0 in
-    rw (plain-writable m (require-passed (writable cspCarries m) 9 _ checks .0) .0)
-
 -- Whatever the output: bytes that were written read as every field that the link and the kind carry, and the payload.
 pub bytes-read : (l : Link) (m : Message) (p b : List ℕ) → linkWrite l m p ≡ written b → linkRead l b ≡ given (linkCarried l m) p
-unfolding linkWrite linkRead
-bytes-read Uart m p b e = rw (← uart-carried m) (serial.written-reads SerialLink·of.Uart m p b e)
-bytes-read Rs485 m p b e = rw (← rs485-carried m) (serial.written-reads SerialLink·of.Rs485 m p b e)
-bytes-read Can m p b e = rw (← can-carried m) (can.written-reads m p b e)
-bytes-read Csp m p b e = rw (← csp-carried m p b e) (csp.written-reads m p b e)
+unfolding linkWrite linkRead linkCarried
+bytes-read Uart m p b e = serial.written-reads SerialLink·of.Uart m p b e
+bytes-read Rs485 m p b e = serial.written-reads SerialLink·of.Rs485 m p b e
+bytes-read Can m p b e = can.written-reads m p b e
+bytes-read Csp m p b e = csp.written-reads m p b e
 
 -- Reading what was written returns every field that the link and the kind carry, 0 in the others, and the payload.
 pub written-reads : WrittenReads
@@ -93,13 +55,5 @@ legal-arrives l m p h =
 
 -- Only an event's ID changes on the way.
 pub id-arrives : (l : Link) (m : Message) → isEvent (m .kind) ≡ false → linkCarried l m .id ≡ m .id
-unfolding linkCarried idCarried
+unfolding linkCarried carriedOn
 id-arrives l m h = rw h
-
--- An answer goes back to addresses that were read, and they are carried as they are.
-pub address-again : (l : Link) (a : ℕ) → addressCarried l (addressCarried l a) ≡ addressCarried l a
-unfolding addressCarried
-address-again Uart a = refl
-address-again Rs485 a = refl
-address-again Can a = refl
-address-again Csp a = refl

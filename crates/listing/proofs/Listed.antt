@@ -15,6 +15,7 @@ use Rattle.message.proofs.Checks.{require-passed}
 use Rattle.message.specs.Answer.{refused, given, counted, passed, require, after, written}
 use Rattle.message.specs.Body.{bodyBytes}
 use Rattle.message.specs.Checks.{writable, writeChecks}
+use Rattle.message.specs.Kinds.{carriedOn}
 use Rattle.message.specs.declared.Message.{Message}
 use Rattle.stuffing.proofs.Scans.{scan-plain, scan-doubled}
 use Rattle.stuffing.specs.Stuffing.{doubled, Scan, stopped, scan, escaped, frameScan}
@@ -22,7 +23,7 @@ use Rattle.stuffing.specs.declared.Stop.the-variants.{Ended, Broken, Cut}
 use Rattle.stuffing.specs.declared.Stop.{Stop}
 use Rattle.serial.proofs.RoundTrip.{written-reads}
 use Rattle.serial.proofs.Tables.{row-of-start, written-row}
-use Rattle.serial.specs.Frames.{startByte, startRow, rowOf, sourceLegal, closed, started, frameRead, carries, headFields, frameBytes, frameWrite, frameCarried}
+use Rattle.serial.specs.Frames.{startByte, startRow, rowOf, sourceLegal, closed, started, frameRead, carries, headFields, frameBytes, frameWrite}
 use Rattle.serial.specs.declared.Row.{Row}
 use Rattle.serial.specs.declared.SerialLink.the-variants.{Uart}
 use Rattle.serial.specs.declared.StartRow.the-variants.{Known, Unknown}
@@ -56,14 +57,14 @@ module _ (start : ℕ) (row : Row) (known : startRow Uart start ≡ Known row) (
 
 -- So a frame that was written is listed as the message that was written.
 pub written-listed : (m : Message) (p b behind : List ℕ) (n at : ℕ) → frameWrite Uart m p ≡ written b → length (b ++ behind) ≤ n
-    → lines n at (b ++ behind) ≡ lineText (line at (given (frameCarried Uart m) (length p))) ++ lines n (at + length b) behind
+    → lines n at (b ++ behind) ≡ lineText (line at (given (carriedOn false true m) (length p))) ++ lines n (at + length b) behind
 unfolding frameWrite frameBytes writeChecks counted
 written-listed m p b behind n at e h =
     let w = after-passed (writeChecks (carries Uart) m (length p)) _ tt b e in
     let v = after-given (require (sourceLegal Uart (m .source)) 7 passed) tt tt (frameBytes Uart m p) b (w .1) in
     let r = rowOf (m .kind) in
     let has = written-row Uart m (require-passed (writable (carries Uart) m) 9 _ (w .0) .0) .0 in
-    let read : counted (frameRead Uart b) ≡ given (frameCarried Uart m) (length p) = rw (written-reads Uart m p b e) in
+    let read : counted (frameRead Uart b) ≡ given (carriedOn false true m) (length p) = rw (written-reads Uart m p b e) in
     let body = headFields Uart r m ++ bodyBytes m p in
     rw (← read, ← v .2) (complete-listed (startByte Uart r) r (row-of-start Uart r has) body behind n at (rw (← v .2) at h))
 

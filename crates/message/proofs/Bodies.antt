@@ -11,8 +11,8 @@ use native.Mathlib.Omega.{arith}
 use lib.ListN.{length, getD, take, drop, length-drop, length-append, length-take}
 use Rattle.message.specs.Answer.{verdictTold, passed, failed, refused, given, after}
 use Rattle.message.specs.Body.{errorNumber, errorBytes, bodyBytes, bodyMessage, bodyRead}
-use Rattle.message.specs.Checks.{payloadLegal, errorLegal, told, fieldChecks, bodyFits, bodyChecks}
-use Rattle.message.specs.Kinds.{inside, errorLength, isAck, isNack, carried}
+use Rattle.message.specs.Checks.{idLegal, payloadLegal, errorLegal, told, fieldChecks, bodyFits, bodyChecks}
+use Rattle.message.specs.Kinds.{inside, errorLength, isAck, isNack, isEvent, errorCarried, indexCarried, carriedOn}
 use Rattle.message.specs.declared.ErrorByte.{ErrorByte}
 use Rattle.message.specs.declared.ErrorByte.the-variants.{Told, NotTold}
 use Rattle.message.specs.declared.Kind.{Kind}
@@ -45,14 +45,10 @@ module _ (k : Kind) (id s t : ℕ) (d : List ℕ) where
   unfolding bodyRead after
   body-given e = rw e
 
--- The message at other addresses.
-abbrev pub at : Message → ℕ → ℕ → Message
-at m s t = record { kind = m .kind; id = m .id; source = s; destination = t; error = m .error; index = m .index }
-
 -- What tells the error reads back, by the kind.
 fields-again : (k : Kind) (id s t e i : ℕ) (p : List ℕ)
-    → bodyMessage k id s t (take (errorLength k) (e ∷ i ∷ []) ++ p) ≡ carried (record { kind = k; id = id; source = s; destination = t; error = Told e; index = i })
-unfolding bodyMessage carried
+    → bodyMessage k id s t (take (errorLength k) (e ∷ i ∷ []) ++ p) ≡ record { kind = k; id = id; source = s; destination = t; error = errorCarried true k (Told e); index = indexCarried true k i }
+unfolding bodyMessage errorCarried indexCarried
 fields-again Telecommand id s t e i p = refl
 fields-again TelecommandAck id s t e i p = refl
 fields-again TelecommandNack id s t e i p = refl
@@ -62,28 +58,28 @@ fields-again TelemetryNack id s t e i p = refl
 fields-again Event id s t e i p = refl
 
 -- A legal error that a link can write is told wherever the kind carries one.
-carried-told : (k : Kind) (id s t : ℕ) (e : ErrorByte) (i : ℕ) → errorLegal k e ≡ true → told k e ≡ true
-    → carried (record { kind = k; id = id; source = s; destination = t; error = Told (errorNumber e); index = i }) ≡ carried (record { kind = k; id = id; source = s; destination = t; error = e; index = i })
-unfolding carried errorLegal told isAck isNack
-carried-told k id s t (Told e) i legal tells = refl
-carried-told Telecommand id s t NotTold i legal tells = refl
-carried-told TelecommandAck id s t NotTold i legal tells = absurd (let z : _≡_ {A = ℕ} 0 1 = cc in omega arith)
-carried-told TelecommandNack id s t NotTold i legal tells = absurd (let z : _≡_ {A = ℕ} 0 1 = cc in omega arith)
-carried-told TelemetryRequest id s t NotTold i legal tells = refl
-carried-told TelemetryResponse id s t NotTold i legal tells = refl
-carried-told TelemetryNack id s t NotTold i legal tells = absurd (let z : _≡_ {A = ℕ} 0 1 = cc in omega arith)
-carried-told Event id s t NotTold i legal tells = refl
+carried-told : (k : Kind) (e : ErrorByte) → errorLegal k e ≡ true → told k e ≡ true → errorCarried true k (Told (errorNumber e)) ≡ errorCarried true k e
+unfolding errorCarried errorLegal told isAck isNack
+carried-told k (Told e) legal tells = refl
+carried-told Telecommand NotTold legal tells = refl
+carried-told TelecommandAck NotTold legal tells = absurd (let z : _≡_ {A = ℕ} 0 1 = cc in omega arith)
+carried-told TelecommandNack NotTold legal tells = absurd (let z : _≡_ {A = ℕ} 0 1 = cc in omega arith)
+carried-told TelemetryRequest NotTold legal tells = refl
+carried-told TelemetryResponse NotTold legal tells = refl
+carried-told TelemetryNack NotTold legal tells = absurd (let z : _≡_ {A = ℕ} 0 1 = cc in omega arith)
+carried-told Event NotTold legal tells = refl
 
--- A legal error stays so where the kind drops it.
-carried-legal : (k : Kind) (e : ErrorByte) → errorLegal k e ≡ true → errorLegal k (cond (leb 1 (errorLength k)) e (Told 0)) ≡ true
-unfolding errorLegal inside
-carried-legal Telecommand e legal = refl
-carried-legal TelecommandAck e legal = legal
-carried-legal TelecommandNack e legal = legal
-carried-legal TelemetryRequest e legal = refl
-carried-legal TelemetryResponse e legal = refl
-carried-legal TelemetryNack e legal = legal
-carried-legal Event e legal = refl
+-- A legal field stays so where the kind drops it: the ID, and what tells the error.
+carried-legal : (k : Kind) (id : ℕ) (e : ErrorByte) → idLegal k id ≡ true → errorLegal k e ≡ true
+    → (idLegal k (cond (isEvent k) 255 id) ≡ true) × (errorLegal k (errorCarried true k e) ≡ true)
+unfolding idLegal isEvent errorLegal errorCarried inside
+carried-legal Telecommand id e h legal = (h, refl)
+carried-legal TelecommandAck id e h legal = (h, legal)
+carried-legal TelecommandNack id e h legal = (h, legal)
+carried-legal TelemetryRequest id e h legal = (h, refl)
+carried-legal TelemetryResponse id e h legal = (h, refl)
+carried-legal TelemetryNack id e h legal = (h, legal)
+carried-legal Event id e h legal = (refl, refl)
 
 pub error-bytes-length : (m : Message) → length (errorBytes m) ≡ errorLength (m .kind)
 unfolding errorBytes
@@ -97,23 +93,24 @@ body-right m p legal =
     let long : n ≤ n + length p = omega arith in
     rw (length-append, error-bytes-length m, le-leb _ _ long, add-sub-cancel-left) legal
 
--- Reading data that was written returns what the kind carries, and the payload.
-pub body-written : (m : Message) (s t : ℕ) (p : List ℕ) → fieldChecks m (payloadLegal (m .kind) (length p)) ≡ passed → told (m .kind) (m .error) ≡ true
-    → bodyRead (m .kind) (m .id) s t (bodyBytes m p) ≡ given (carried (at m s t)) p
-unfolding bodyBytes errorBytes bodyChecks carried
-body-written m s t p checks tells =
+-- Reading data that was written, behind fields that a link carries, returns every carried field and the payload.
+pub body-written : (addresses : Bool) (m : Message) (p : List ℕ) → fieldChecks m (payloadLegal (m .kind) (length p)) ≡ passed → told (m .kind) (m .error) ≡ true
+    → let c = carriedOn addresses true m in bodyRead (m .kind) (c .id) (c .source) (c .destination) (bodyBytes m p) ≡ given c p
+unfolding bodyBytes errorBytes bodyChecks carriedOn
+body-written addresses m p checks tells =
     let h = fields-passed m (payloadLegal (m .kind) (length p)) checks in
     let d = bodyBytes m p in
-    let c = carried (at m s t) in
-    let same : bodyMessage (m .kind) (m .id) s t d ≡ c =
-    fields-again (m .kind) (m .id) s t (errorNumber (m .error)) (m .index) p ∙ carried-told (m .kind) (m .id) s t (m .error) (m .index) (h .2) tells in
-    let passes : bodyChecks (bodyMessage (m .kind) (m .id) s t d) (length d) ≡ passed =
-    rw same (fields-pass c (bodyFits (m .kind) (length d)) (h .0) (body-right m p (h .1)) (carried-legal (m .kind) (m .error) (h .2))) in
-    rw (body-given (m .kind) (m .id) s t d passes, same) (ap (given c) (drop-at (errorBytes m) p (errorLength (m .kind)) (error-bytes-length m)))
+    let c = carriedOn addresses true m in
+    let legal = carried-legal (m .kind) (m .id) (m .error) (h .0) (h .2) in
+    let same : bodyMessage (m .kind) (c .id) (c .source) (c .destination) d ≡ c =
+    fields-again (m .kind) (c .id) (c .source) (c .destination) (errorNumber (m .error)) (m .index) p ∙ rw (carried-told (m .kind) (m .error) (h .2) tells) in
+    let passes : bodyChecks (bodyMessage (m .kind) (c .id) (c .source) (c .destination) d) (length d) ≡ passed =
+    rw same (fields-pass c (bodyFits (m .kind) (length d)) (legal .0) (body-right m p (h .1)) (legal .1)) in
+    rw (body-given (m .kind) (c .id) (c .source) (c .destination) d passes, same) (ap (given c) (drop-at (errorBytes m) p (errorLength (m .kind)) (error-bytes-length m)))
 
 -- What tells the error is written again as it was read, by the kind.
 bytes-again : (k : Kind) (id s t : ℕ) (d : List ℕ) → errorLength k ≤ length d → bodyBytes (bodyMessage k id s t d) (drop (errorLength k) d) ≡ d
-unfolding bodyBytes errorBytes bodyMessage carried
+unfolding bodyBytes errorBytes bodyMessage errorCarried indexCarried
 bytes-again Telecommand id s t d h = refl
 bytes-again TelecommandAck id s t [] h = absurd (omega arith)
 bytes-again TelecommandAck id s t (x ∷ d) h = refl
@@ -136,7 +133,7 @@ read-told k false e = refl
 -- Writing data that was read returns it.
 pub body-read : (k : Kind) (id s t : ℕ) (d : List ℕ) (m : Message) (p : List ℕ) → bodyRead k id s t d ≡ given m p
     → (bodyMessage k id s t d ≡ m) × (told (m .kind) (m .error) ≡ true) × (fieldChecks m (payloadLegal (m .kind) (length p)) ≡ passed) × (bodyBytes m p ≡ d)
-unfolding bodyRead bodyChecks bodyMessage carried
+unfolding bodyRead bodyChecks bodyMessage errorCarried
 body-read k id s t d m p e =
     let c = bodyMessage k id s t d in
     let g = after-given (bodyChecks c (length d)) c m (drop (errorLength k) d) p e in

@@ -1,8 +1,10 @@
--- The seven kinds: which IDs, payload lengths and error bytes each has (document 01, "Messages"), and its type (document 01, "CAN and CSP").
+-- The seven kinds: which IDs, payload lengths and error bytes each has (document 01, "Messages"), and its type (document 01, "CAN and CSP"). Then
+-- which fields of a message arrive.
 use Prim.Native.Nat.{ℕ}
 use mathlib.Core.Bool.{Bool, _&&_, cond}
 use lib.Dec.{leb, eqb}
-use Rattle.message.specs.declared.ErrorByte.the-variants.{Told}
+use Rattle.message.specs.declared.ErrorByte.{ErrorByte}
+use Rattle.message.specs.declared.ErrorByte.the-variants.{Told, NotTold}
 use Rattle.message.specs.declared.Kind.{Kind}
 use Rattle.message.specs.declared.Kind.the-variants.{Telecommand, TelecommandAck, TelecommandNack, TelemetryRequest, TelemetryResponse, TelemetryNack, Event}
 use Rattle.message.specs.declared.Message.{Message}
@@ -89,14 +91,23 @@ isNack k = eqb (errorLength k) 2
 unfoldable pub isEvent : Kind → Bool
 isEvent k = eqb (typeNumber k) 9
 
--- "Messages": fields that a kind doesn't carry read as 0.
-unfoldable pub carried : Message → Message
-carried m =
+-- What tells the error, where the link carries it and where not: an ack has an error byte, a nack an index too. "CAN and CSP": a nack without
+-- them "reads as 'not told' with index 0".
+unfoldable pub errorCarried : Bool → Kind → ErrorByte → ErrorByte
+errorCarried errors k e = cond errors (cond (leb 1 (errorLength k)) e (Told 0)) (cond (isNack k) NotTold (Told 0))
+
+unfoldable pub indexCarried : Bool → Kind → ℕ → ℕ
+indexCarried errors k i = cond (errors && leb 2 (errorLength k)) i 0
+
+-- "Messages": "Fields that a link or a kind doesn't carry read as 0", and an event's ID "reads as 255". So a message arrives over a link that
+-- carries addresses or not, and what tells the error or not.
+unfoldable pub carriedOn : Bool → Bool → Message → Message
+carriedOn addresses errors m =
     record {
       kind = m .kind;
-      id = m .id;
-      source = m .source;
-      destination = m .destination;
-      error = cond (leb 1 (errorLength (m .kind))) (m .error) (Told 0);
-      index = cond (leb 2 (errorLength (m .kind))) (m .index) 0;
+      id = cond (isEvent (m .kind)) 255 (m .id);
+      source = cond addresses (m .source) 0;
+      destination = cond addresses (m .destination) 0;
+      error = errorCarried errors (m .kind) (m .error);
+      index = indexCarried errors (m .kind) (m .index);
     }

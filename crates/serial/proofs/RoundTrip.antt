@@ -1,7 +1,7 @@
 -- Both round trips of the serial links (demand 2): doubling undoes the scan, the fields in front of the data stand in their places, and
 -- the data goes as on every link that carries the error byte.
 use Prim.Native.Nat.{ℕ, _+_, _≤_}
-use mathlib.Core.Bool.{Bool, true, false}
+use mathlib.Core.Bool.{Bool, true, false, cond}
 use mathlib.Core.List.{List, [], _∷_, _++_}
 use mathlib.Core.Path.{_≡_, refl, ap, sym, _∙_}
 use native.Mathlib.Omega.{arith}
@@ -10,20 +10,19 @@ use lib.Dec.{leb, eqb}
 use lib.ListN.{length, drop, length-append}
 use lib.Seq.{drop-length}
 use Rattle.message.specs.Answer.{Answer, refused, given, passed, require, after, written}
-use Rattle.message.specs.Body.{errorBytes, bodyBytes, bodyMessage, bodyRead}
-use Rattle.message.specs.Checks.{idLegal, payloadLegal, fieldChecks, writable, writeChecks}
-use Rattle.message.specs.Kinds.{inside, carried}
+use Rattle.message.specs.Body.{bodyBytes, bodyMessage, bodyRead}
+use Rattle.message.specs.Checks.{idLegal, payloadLegal, writable, writeChecks}
+use Rattle.message.specs.Kinds.{carriedOn}
 use Rattle.message.specs.declared.Kind.{Kind}
-use Rattle.message.specs.declared.Kind.the-variants as Kind·of
 use Rattle.message.specs.declared.Message.{Message}
 use Rattle.message.proofs.Answers.{after-given, after-passed}
 use Rattle.message.proofs.Bodies.{body-written, body-read}
-use Rattle.message.proofs.Checks.{require-passed, fields-passed, fields-pass}
+use Rattle.message.proofs.Checks.{require-passed, fields-passed}
 use Rattle.stuffing.specs.Stuffing.{doubled, scan}
 use Rattle.stuffing.specs.declared.Stop.{Stop}
 use Rattle.stuffing.specs.declared.Stop.the-variants.{Ended, Broken, Cut}
 use Rattle.stuffing.proofs.Scans.{scan-doubled, doubled-scan}
-use Rattle.serial.specs.Frames.{startByte, startRow, rowOf, kindOf, headLength, idField, addressField, sourceLegal, sourced, identified, frameBody, closed, started, frameRead, carries, headFields, frameBytes, frameWrite, idCarried, addressCarried, frameCarried}
+use Rattle.serial.specs.Frames.{startByte, startRow, rowOf, kindOf, headLength, idField, addressField, sourceLegal, sourced, identified, frameBody, closed, started, frameRead, carries, headFields, frameBytes, frameWrite, addressed}
 use Rattle.serial.specs.declared.IdKind.{IdKind}
 use Rattle.serial.specs.declared.IdKind.the-variants as IdKind·of
 use Rattle.serial.specs.declared.Row.{Row}
@@ -31,7 +30,7 @@ use Rattle.serial.specs.declared.StartRow.{StartRow}
 use Rattle.serial.specs.declared.StartRow.the-variants as StartRow·of
 use Rattle.serial.specs.declared.SerialLink.{SerialLink}
 use Rattle.serial.specs.declared.SerialLink.the-variants.{Uart, Rs485}
-use Rattle.serial.proofs.Tables.{Has, row-of-start, start-of-row, fields-again, fields-length, kind-of-id, row-of-kind, written-row, read-writable, body-again}
+use Rattle.serial.proofs.Tables.{Has, row-of-start, start-of-row, fields-again, id-again, fields-length, kind-of-id, row-of-kind, written-row, read-writable, body-again}
 
 -- A frame around a doubled body reads as that body.
 frame-around : (l : SerialLink) (r : Row) (d : List ℕ) → Has l r → frameRead l (0x1F ∷ startByte l r ∷ (doubled d ++ (0x1F ∷ 0xFF ∷ []))) ≡ frameBody l r d
@@ -46,33 +45,22 @@ frame-around l r d has =
 -- A body of the fields in front of the data and the data reads as the data.
 body-around : (l : SerialLink) (m : Message) (q : List ℕ) → Has l (rowOf (m .kind)) → idLegal (m .kind) (m .id) ≡ true
     → frameBody l (rowOf (m .kind)) (headFields l (rowOf (m .kind)) m ++ q)
-    ≡ sourced l (bodyRead (m .kind) (idCarried (rowOf (m .kind)) (m .id)) (addressCarried l (m .source)) (addressCarried l (m .destination)) q)
-unfolding frameBody identified require after
+    ≡ (let c = carriedOn (addressed l) true m in sourced l (bodyRead (m .kind) (c .id) (c .source) (c .destination) q))
+unfolding frameBody identified carriedOn require after
 body-around l m q has legal =
     let r = rowOf (m .kind) in
     let f = fields-again l r m q has in
     let long : headLength l r ≤ length (headFields l r m ++ q) = rw (length-append, fields-length l r m) (omega arith) in
-    rw (le-leb _ _ long, f .0, f .1, f .2, f .3, kind-of-id (m .kind) (m .id) legal)
+    rw (le-leb _ _ long, f .0, id-again (m .kind) (m .id), f .1, f .2, f .3, kind-of-id (m .kind) (m .id) legal)
 
--- What is carried of a legal field is legal.
-id-carried : (k : Kind) (id : ℕ) → idLegal k id ≡ true → idLegal k (idCarried (rowOf k) id) ≡ true
-unfolding idLegal inside idCarried
-id-carried Kind·of.Telecommand id h = h
-id-carried Kind·of.TelecommandAck id h = h
-id-carried Kind·of.TelecommandNack id h = h
-id-carried Kind·of.TelemetryRequest id h = h
-id-carried Kind·of.TelemetryResponse id h = h
-id-carried Kind·of.TelemetryNack id h = h
-id-carried Kind·of.Event id h = refl
-
-source-carried : (l : SerialLink) (s : ℕ) → sourceLegal l s ≡ true → sourceLegal l (addressCarried l s) ≡ true
-unfolding sourceLegal addressCarried
+source-carried : (l : SerialLink) (s : ℕ) → sourceLegal l s ≡ true → sourceLegal l (cond (addressed l) s 0) ≡ true
+unfolding sourceLegal
 source-carried Uart s h = refl
 source-carried Rs485 s h = h
 
 -- Reading what was written returns every carried field and the payload.
-pub written-reads : (l : SerialLink) (m : Message) (p b : List ℕ) → frameWrite l m p ≡ written b → frameRead l b ≡ given (frameCarried l m) p
-unfolding frameWrite frameBytes frameCarried carried bodyBytes errorBytes writeChecks sourced require after
+pub written-reads : (l : SerialLink) (m : Message) (p b : List ℕ) → frameWrite l m p ≡ written b → frameRead l b ≡ given (carriedOn (addressed l) true m) p
+unfolding frameWrite frameBytes carriedOn writeChecks sourced require after
 written-reads l m p b e =
     let w = after-passed (writeChecks (carries l) m (length p)) _ tt b e in
     let v = after-given (require (sourceLegal l (m .source)) 7 passed) tt tt (frameBytes l m p) b (w .1) in
@@ -80,14 +68,8 @@ written-reads l m p b e =
     let row = written-row l m (c .0) in
     let h = fields-passed m (payloadLegal (m .kind) (length p)) (c .1) in
     let r = rowOf (m .kind) in
-    let s = addressCarried l (m .source) in
-    let t = addressCarried l (m .destination) in
-    let m′ : Message =
-    record { kind = m .kind; id = idCarried r (m .id); source = s; destination = t; error = m .error; index = m .index } in
-    let checks : fieldChecks m′ (payloadLegal (m .kind) (length p)) ≡ passed =
-    fields-pass m′ (payloadLegal (m .kind) (length p)) (id-carried (m .kind) (m .id) (h .0)) (h .1) (h .2) in
     let source = source-carried l (m .source) (require-passed (sourceLegal l (m .source)) 7 passed (v .0) .0) in
-    rw (← v .2, frame-around l r (headFields l r m ++ bodyBytes m p) (row .0), body-around l m (bodyBytes m p) (row .0) (h .0), body-written m′ s t p checks (row .1), source)
+    rw (← v .2, frame-around l r (headFields l r m ++ bodyBytes m p) (row .0), body-around l m (bodyBytes m p) (row .0) (h .0), body-written (addressed l) m p (c .1) (row .1), source)
 
 sourced-given : (l : SerialLink) (x : Answer Message (List ℕ)) (m : Message) (p : List ℕ) → sourced l x ≡ given m p → (x ≡ given m p) × (sourceLegal l (m .source) ≡ true)
 unfolding sourced
@@ -100,7 +82,7 @@ sourced-given l (given m′ p′) m p e =
 kind-writes : (l : SerialLink) (r : Row) (d : List ℕ) (m : Message) (p : List ℕ) (k : Kind) → Has l r → headLength l r ≤ length d → kindOf r (idField r d) ≡ IdKind·of.Known k
     → sourced l (bodyRead k (idField r d) (addressField l d 1) (addressField l d 2) (drop (headLength l r) d)) ≡ given m p
     → frameWrite l m p ≡ written (0x1F ∷ startByte l r ∷ (doubled d ++ (0x1F ∷ 0xFF ∷ [])))
-unfolding frameWrite frameBytes writeChecks bodyMessage carried require after
+unfolding frameWrite frameBytes writeChecks bodyMessage require after
 kind-writes l r d m p k has long q e =
     let y = sourced-given l _ m p e in
     let z = body-read k _ _ _ _ m p (y .0) in

@@ -1,6 +1,6 @@
 -- The laws of the tables of start bytes and fields, by the link and the row.
 use Prim.Native.Nat.{ℕ, _≤_}
-use mathlib.Core.Bool.{Bool, true, false, _&&_}
+use mathlib.Core.Bool.{Bool, true, false, cond, _&&_}
 use mathlib.Core.List.{List, [], _∷_, _++_}
 use mathlib.Core.Path.{_≡_, refl, ap, sym, _∙_}
 use native.Mathlib.Omega.{arith}
@@ -16,7 +16,7 @@ use Rattle.message.specs.declared.Kind.the-variants as Kind·of
 use Rattle.message.specs.declared.Message.{Message}
 use Rattle.message.proofs.Checks.{both-true, plain-writable, writable-plain}
 use Rattle.message.proofs.Tables.{by-row}
-use Rattle.serial.specs.Frames.{startByte, startRow, rowOf, byId, kindOf, headLength, idField, addressField, carries, headFields, idCarried, addressCarried}
+use Rattle.serial.specs.Frames.{startByte, startRow, rowOf, byId, kindOf, headLength, idField, addressField, carries, headFields, addressed}
 use Rattle.serial.specs.declared.IdKind.{IdKind}
 use Rattle.serial.specs.declared.IdKind.the-variants as IdKind·of
 use Rattle.serial.specs.declared.StartRow.{StartRow}
@@ -77,8 +77,8 @@ start-of-row Rs485 b r e =
 
 -- The fields in front of the data, each read back from its place.
 pub fields-again : (l : SerialLink) (r : Row) (m : Message) (q : List ℕ) → Has l r
-    → (idField r (headFields l r m ++ q) ≡ idCarried r (m .id)) × (addressField l (headFields l r m ++ q) 1 ≡ addressCarried l (m .source)) × (addressField l (headFields l r m ++ q) 2 ≡ addressCarried l (m .destination)) × (drop (headLength l r) (headFields l r m ++ q) ≡ q)
-unfolding headFields idField addressField idCarried addressCarried
+    → (idField r (headFields l r m ++ q) ≡ idField r (m .id ∷ [])) × (addressField l (headFields l r m ++ q) 1 ≡ cond (addressed l) (m .source) 0) × (addressField l (headFields l r m ++ q) 2 ≡ cond (addressed l) (m .destination) 0) × (drop (headLength l r) (headFields l r m ++ q) ≡ q)
+unfolding headFields idField addressField
 fields-again Uart Request m q h = (refl, refl, refl, refl)
 fields-again Uart Reply m q h = (refl, refl, refl, refl)
 fields-again Uart Nack m q h = (refl, refl, refl, refl)
@@ -87,6 +87,17 @@ fields-again Rs485 Request m q h = (refl, refl, refl, refl)
 fields-again Rs485 Reply m q h = (refl, refl, refl, refl)
 fields-again Rs485 Nack m q h = (refl, refl, refl, refl)
 fields-again Rs485 Event m q h = absurd h
+
+-- An event's ID is 255, whatever was written.
+pub id-again : (k : Kind) (id : ℕ) → idField (rowOf k) (id ∷ []) ≡ cond (isEvent k) 255 id
+unfolding idField isEvent
+id-again Kind·of.Telecommand id = refl
+id-again Kind·of.TelecommandAck id = refl
+id-again Kind·of.TelecommandNack id = refl
+id-again Kind·of.TelemetryRequest id = refl
+id-again Kind·of.TelemetryResponse id = refl
+id-again Kind·of.TelemetryNack id = refl
+id-again Kind·of.Event id = refl
 
 pub fields-length : (l : SerialLink) (r : Row) (m : Message) → length (headFields l r m) ≡ headLength l r
 unfolding headFields
@@ -110,8 +121,8 @@ telemetry-id id tc tlm h =
     let g = both-true (leb 128 id) (leb id 254) h in
     rw (lt-leb id 127 (leb-true 128 id (g .0)), g .1)
 
-pub kind-of-id : (k : Kind) (id : ℕ) → idLegal k id ≡ true → kindOf (rowOf k) (idCarried (rowOf k) id) ≡ IdKind·of.Known k
-unfolding idLegal inside kindOf idCarried
+pub kind-of-id : (k : Kind) (id : ℕ) → idLegal k id ≡ true → kindOf (rowOf k) (cond (isEvent k) 255 id) ≡ IdKind·of.Known k
+unfolding idLegal inside kindOf isEvent
 kind-of-id Kind·of.Telecommand id h = telecommand-id id _ _ h
 kind-of-id Kind·of.TelecommandAck id h = telecommand-id id _ _ h
 kind-of-id Kind·of.TelecommandNack id h = telecommand-id id _ _ h

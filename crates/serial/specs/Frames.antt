@@ -7,7 +7,6 @@ use lib.ListN.{length, getD, drop}
 use Rattle.message.specs.Answer.{Answer, refused, given, passed, require, after, written}
 use Rattle.message.specs.Body.{bodyRead, bodyBytes}
 use Rattle.message.specs.Checks.{writeChecks}
-use Rattle.message.specs.Kinds.{carried}
 use Rattle.message.specs.declared.Carries.{Carries}
 use Rattle.message.specs.declared.Kind.{Kind}
 use Rattle.message.specs.declared.Kind.the-variants as Kind·of
@@ -156,25 +155,7 @@ frameWrite l m p =
     after (writeChecks (carries l) m (length p))
     (after (require (sourceLegal l (m .source)) 7 passed) (written (frameBytes l m p)))
 
--- Every field that the link and the kind carry; the others are 0, and an event's ID is 255.
-unfoldable pub idCarried : Row → ℕ → ℕ
-idCarried Request id = id
-idCarried Reply id = id
-idCarried Nack id = id
-idCarried Event id = 255
-
-unfoldable pub addressCarried : SerialLink → ℕ → ℕ
-addressCarried Uart a = 0
-addressCarried Rs485 a = a
-
-unfoldable pub frameCarried : SerialLink → Message → Message
-frameCarried l m =
-    let c = carried m in
-    record {
-      kind = c .kind;
-      id = idCarried (rowOf (m .kind)) (m .id);
-      source = addressCarried l (m .source);
-      destination = addressCarried l (m .destination);
-      error = c .error;
-      index = c .index;
-    }
+-- Which of the two carries addresses: "on RS485 source and destination".
+abbrev pub addressed : SerialLink → Bool
+addressed Uart = false
+addressed Rs485 = true

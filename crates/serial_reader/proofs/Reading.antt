@@ -9,7 +9,7 @@ use lib.Seq.{getD-drop, drop-drop}
 use Rattle.message.specs.Answer.{refused, given, passed, failed, require, after}
 use Rattle.message.specs.Body.{bodyMessage, bodyRead}
 use Rattle.message.specs.Checks.{bodyChecks}
-use Rattle.message.specs.Kinds.{errorLength, carried}
+use Rattle.message.specs.Kinds.{errorLength, errorCarried, indexCarried}
 use Rattle.message.specs.declared.ErrorByte.the-variants.{Told}
 use Rattle.message.specs.declared.Kind.{Kind}
 use Rattle.message.specs.declared.Message.{Message}
@@ -19,7 +19,7 @@ use Rattle.serial.specs.declared.SerialLink.{SerialLink}
 
 -- The message of the data behind h bytes of a body, from the body's own bytes.
 pub data-message : (k : Kind) (id s t h : ℕ) (body : List ℕ)
-    → carried (record { kind = k; id = id; source = s; destination = t; error = Told (getD body h 0); index = getD body (h + 1) 0 }) ≡ bodyMessage k id s t (drop h body)
+    → _≡_ {A = Message} (record { kind = k; id = id; source = s; destination = t; error = errorCarried true k (Told (getD body h 0)); index = indexCarried true k (getD body (h + 1) 0) }) (bodyMessage k id s t (drop h body))
 unfolding bodyMessage
 data-message k id s t h body = rw (getD-drop h body 0 0, add-zero, getD-drop h body 1 0)
 
@@ -29,11 +29,11 @@ module _ (l : SerialLink) (k : Kind) (id s t h : ℕ) (body : List ℕ) (m : Mes
   data-refused n e = rw (body-refused k id s t (drop h body) n (rw (← same, length-drop) e))
 
   pub data-source : bodyChecks m (length body - h) ≡ passed → sourceLegal l s ≡ false → sourced l (bodyRead k id s t (drop h body)) ≡ refused 7
-  unfolding sourced require after bodyMessage carried
+  unfolding sourced require after bodyMessage
   data-source e q = rw (body-given k id s t (drop h body) (rw (← same, length-drop) e), q)
 
   pub data-given : bodyChecks m (length body - h) ≡ passed → sourceLegal l s ≡ true → sourced l (bodyRead k id s t (drop h body)) ≡ given m (drop (h + errorLength k) body)
-  unfolding sourced require after bodyMessage carried
+  unfolding sourced require after bodyMessage
   data-given e q =
       let g : bodyRead k id s t (drop h body) ≡ given (bodyMessage k id s t (drop h body)) (drop (errorLength k) (drop h body)) =
       body-given k id s t (drop h body) (rw (← same, length-drop) e) in

@@ -9,10 +9,10 @@ use lib.Dec.{eqb}
 use lib.ListN.{length, take, drop, replicate}
 use lib.Seq.{take-at}
 use Rattle.message.specs.Answer.{given}
-use Rattle.message.specs.Kinds.{isEvent}
+use Rattle.message.specs.Kinds.{isEvent, carriedOn}
 use Rattle.little_endian.proofs.Laws.{to-length, from-to}
 use Rattle.file.specs.File.{fileFrame}
-use Rattle.link.specs.Link.{idCarried, linkCarried, linkRead}
+use Rattle.link.specs.Link.{linkCarried, linkRead}
 use Rattle.device_rules.specs.declared.Device.{Device}
 use Rattle.upload.specs.Sender.{requestPayload}
 use Rattle.upload.specs.declared.Meaning.{Meaning}
@@ -161,7 +161,7 @@ takes Confirm f j = false
 
 pub read-takes : (u : Upload) (stage : Stage) (f j : ℕ) → f < 65536
     → isTake j (given (requestRead (u .link) (u .source) (u .destination) stage) (requestPayload stage (u .file) f)) ≡ takes stage f j
-unfolding isTake linkCarried idCarried isEvent requestPayload
+unfolding isTake linkCarried carriedOn isEvent requestPayload
 read-takes u Frame f j h = refl
 read-takes u Back f j h = refl
 read-takes u Compare f j h = refl

@@ -9,12 +9,12 @@ use lib.Dec.{eqb}
 use lib.ListN.{length}
 use Rattle.message.specs.Answer.{passed}
 use Rattle.message.specs.Checks.{payloadLegal, fieldChecks, told}
-use Rattle.message.specs.Kinds.{isEvent, isNack}
+use Rattle.message.specs.Kinds.{isEvent, isNack, errorCarried, carriedOn}
 use Rattle.message.specs.declared.ErrorByte.the-variants.{Told}
 use Rattle.message.specs.declared.Kind.{Kind}
 use Rattle.message.specs.declared.Kind.the-variants.{TelecommandNack}
 use Rattle.message.specs.declared.Message.{Message}
-use Rattle.link.specs.Link.{carriesAddresses, addressCarried, errorCarried, linkCarried}
+use Rattle.link.specs.Link.{carriesAddresses, carriesError, linkCarried}
 use Rattle.link.specs.declared.Link.{Link}
 use Rattle.link.specs.declared.Link.the-variants.{Uart, Rs485, Can, Csp}
 use Rattle.link.proofs.Laws.{Legal}
@@ -72,7 +72,7 @@ answer-arrives l s t own m k e i p a h = legal-arrives l _ p (answer-legal l s t
 
 -- A request is for the unit.
 pub request-taken : (l : Link) (s t own id : ℕ) (k : Kind) → Addressed l s t own → isTaken l own (linkCarried l (requestOf k id s t)) ≡ true
-unfolding isTaken linkCarried addressCarried
+unfolding isTaken linkCarried carriedOn
 request-taken Uart s t own id k a = refl
 request-taken Rs485 s t own id k a = rw (eq-eqb t own (a .2))
 request-taken Can s t own id k a = refl
@@ -82,14 +82,14 @@ request-taken Csp s t own id k a = refl
 pub answer-fits : (l : Link) (s t own id : ℕ) (k k′ : Kind) (e i : ℕ) → Addressed l s t own
     → let m = linkCarried l (answerOf l own (linkCarried l (requestOf k id s t)) k′ e i) in
     (not (carriesAddresses l) || (eqb (m .destination) s && eqb (m .source) t)) ≡ true
-unfolding linkCarried addressCarried answerSource
+unfolding linkCarried carriedOn answerSource
 answer-fits Uart s t own id k k′ e i a = refl
 answer-fits Rs485 s t own id k k′ e i a = rw (eq-eqb s s refl, eq-eqb own t (sym (a .2)))
 answer-fits Can s t own id k k′ e i a = rw (eq-eqb s s refl, eq-eqb t t refl)
 answer-fits Csp s t own id k k′ e i a = refl
 
 -- A nack 3 or 6 tells the sender that its frame was taken, and so does CAN's, which tells nothing.
-pub taken-told : (l : Link) (e : ℕ) → takenError (Told e) ≡ true → takenError (errorCarried l TelecommandNack (Told e)) ≡ true
+pub taken-told : (l : Link) (e : ℕ) → takenError (Told e) ≡ true → takenError (errorCarried (carriesError l) TelecommandNack (Told e)) ≡ true
 unfolding errorCarried takenError isNack
 taken-told Uart e h = h
 taken-told Rs485 e h = h

@@ -10,7 +10,7 @@ use lib.Dec.{eqb}
 use lib.ListN.{length, getD, take, drop, replicate}
 use Rattle.message.specs.Answer.{given, require, about}
 use Rattle.message.specs.Checks.{idLegal, payloadLegal, errorLegal, fieldChecks, told}
-use Rattle.message.specs.Kinds.{inside, isEvent}
+use Rattle.message.specs.Kinds.{inside, isEvent, carriedOn}
 use Rattle.message.specs.declared.Kind.{Kind}
 use Rattle.message.specs.declared.Kind.the-variants.{TelecommandAck, TelecommandNack, TelemetryResponse}
 use Rattle.message.specs.declared.Message.{Message}
@@ -18,7 +18,7 @@ use Rattle.little_endian.specs.LittleEndian.{toBytes, fromBytes}
 use Rattle.checksum.specs.Checksum.{checksum}
 use Rattle.checksum.proofs.Laws.{checksum-below}
 use Rattle.file.specs.File.{frameCount, fileFrame}
-use Rattle.link.specs.Link.{idCarried, linkCarried, linkRead, linkWrite, mostBytes}
+use Rattle.link.specs.Link.{linkCarried, linkRead, linkWrite, mostBytes}
 use Rattle.link.specs.declared.Link.{Link}
 use Rattle.link.proofs.RoundTrip.{id-arrives}
 use Rattle.device_rules.specs.Device.{isFinished, frame}
@@ -121,7 +121,7 @@ module _ (l : Link) (s t own : ℕ) (a : Addressed l s t own) (file : List ℕ) 
         → Plain (told-by stage k e) q
         → kindMeaning k (senderAt l s t n i stage since rounds Running) file (linkCarried l (told-by stage k e)) q ≡ x
         → Served file (senderAt l s t n i stage since rounds Running) (unitAt l own n j buffer buffered pending) store b d′ x
-    unfolding receive messageReply about meaning fits linkCarried
+    unfolding receive messageReply about meaning fits linkCarried carriedOn
     served j buffer buffered pending d′ k e q x reply plain means =
         let back = answer-arrives l s t own (asked stage) k e 0 q a plain in
         let id : linkCarried l (told-by stage k e) .id ≡ requestId stage =
@@ -140,14 +140,14 @@ module _ (l : Link) (s t own : ℕ) (a : Addressed l s t own) (file : List ℕ) 
     -- A: the frame replaces what is in the buffer, and is acked.
     pub served-frame : (p : List ℕ) → linkRead l b ≡ given (asked Frame) p → i < frameCount n → 1 ≤ length p → length p ≤ 256
         → Served file (sender Frame) (unitAt l own n i buffer buffered false) store b (unitAt l own n i (p ++ drop (length p) (replicate 256 0)) (length p) false) Forward
-    unfolding linkCarried idCarried isEvent kindReply commandReply commandAnswer afterCommand commandDone frameDone answerTo told fieldChecks idLegal payloadLegal errorLegal inside require kindMeaning ackMeaning
+    unfolding linkCarried carriedOn isEvent kindReply commandReply commandAnswer afterCommand commandDone frameDone answerTo told fieldChecks idLegal payloadLegal errorLegal inside require kindMeaning ackMeaning
     served-frame p reads h some most =
         served Frame since rounds b p reads i buffer buffered false _ TelecommandAck 0 [] Forward (rw (frame-taken l own n i store buffer buffered p h some most)) (record { plain = refl; tells = refl; fields = refl }) refl
 
     -- B: frame info tells the size and the checksum of the frame in the buffer.
     pub served-compare : (p : List ℕ) → linkRead l b ≡ given (asked Compare) p → take buffered buffer ≡ fileFrame file i → length (fileFrame file i) ≤ 256
         → Served file (sender Compare) (unitAt l own n i buffer buffered false) store b (unitAt l own n i buffer buffered false) Forward
-    unfolding linkCarried idCarried isEvent kindReply telemetryReply answerTo told fieldChecks idLegal payloadLegal errorLegal inside require infoBytes frame kindMeaning infoMeaning
+    unfolding linkCarried carriedOn isEvent kindReply telemetryReply answerTo told fieldChecks idLegal payloadLegal errorLegal inside require infoBytes frame kindMeaning infoMeaning
     served-compare p reads loaded most =
         served Compare since rounds b p reads i buffer buffered false _ TelemetryResponse 0 (infoBytes (unitAt l own n i buffer buffered false)) Forward refl
         (record { plain = refl; tells = refl; fields = rw (info-length _ _ _ _) })
@@ -156,25 +156,25 @@ module _ (l : Link) (s t own : ℕ) (a : Addressed l s t own) (file : List ℕ) 
     -- C: take frame i makes it pending, and is acked;
     pub served-take : linkRead l b ≡ given (asked Take) (toBytes 2 i) → i < frameCount n → i < 65535 → 1 ≤ length (take buffered buffer) → length (take buffered buffer) ≤ n - min (256 * i) n
         → Served file (sender Take) (unitAt l own n i buffer buffered false) store b (unitAt l own n i buffer buffered true) Forward
-    unfolding linkCarried idCarried isEvent kindReply commandReply commandAnswer afterCommand commandDone takeDone answerTo told fieldChecks idLegal payloadLegal errorLegal inside require kindMeaning ackMeaning
+    unfolding linkCarried carriedOn isEvent kindReply commandReply commandAnswer afterCommand commandDone takeDone answerTo told fieldChecks idLegal payloadLegal errorLegal inside require kindMeaning ackMeaning
     served-take reads h small some fits =
         served Take since rounds b (toBytes 2 i) reads i buffer buffered false _ TelecommandAck 0 [] Forward (rw (take-taken l own n i store buffer buffered h small some fits)) (record { plain = refl; tells = refl; fields = refl }) refl
 
     -- while it is pending the repeat gets nack 6,
     pub served-pending : linkRead l b ≡ given (asked Take) (toBytes 2 i) → Served file (sender Take) (unitAt l own n i buffer buffered true) store b (unitAt l own n i buffer buffered true) Forward
-    unfolding linkCarried idCarried isEvent kindReply commandReply commandAnswer afterCommand answerTo told fieldChecks idLegal payloadLegal errorLegal inside require kindMeaning nackMeaning takenError
+    unfolding linkCarried carriedOn isEvent kindReply commandReply commandAnswer afterCommand answerTo told fieldChecks idLegal payloadLegal errorLegal inside require kindMeaning nackMeaning takenError
     served-pending reads =
         served Take since rounds b (toBytes 2 i) reads i buffer buffered true _ TelecommandNack 6 [] Forward (rw (take-pending l own n i store buffer buffered)) (record { plain = refl; tells = refl; fields = refl }) (rw (taken-told l 6 refl))
 
     -- and once it is stored nack 3.
     pub served-stored : linkRead l b ≡ given (asked Take) (toBytes 2 i) → i < 65535 → Served file (sender Take) (unitAt l own n (i + 1) buffer buffered false) store b (unitAt l own n (i + 1) buffer buffered false) Forward
-    unfolding linkCarried idCarried isEvent kindReply commandReply commandAnswer afterCommand answerTo told fieldChecks idLegal payloadLegal errorLegal inside require kindMeaning nackMeaning takenError
+    unfolding linkCarried carriedOn isEvent kindReply commandReply commandAnswer afterCommand answerTo told fieldChecks idLegal payloadLegal errorLegal inside require kindMeaning nackMeaning takenError
     served-stored reads small =
         served Take since rounds b (toBytes 2 i) reads (i + 1) buffer buffered false _ TelecommandNack 3 [] Forward (rw (take-stored l own n i store buffer buffered small)) (record { plain = refl; tells = refl; fields = refl }) (rw (taken-told l 3 refl))
 
     -- D: while it is pending frame info tells the number before it,
     pub served-waiting : (p : List ℕ) → linkRead l b ≡ given (asked Confirm) p → i < 65535 → Served file (sender Confirm) (unitAt l own n i buffer buffered true) store b (unitAt l own n i buffer buffered true) Stay
-    unfolding linkCarried idCarried isEvent kindReply telemetryReply answerTo told fieldChecks idLegal payloadLegal errorLegal inside require infoBytes frame kindMeaning infoMeaning
+    unfolding linkCarried carriedOn isEvent kindReply telemetryReply answerTo told fieldChecks idLegal payloadLegal errorLegal inside require infoBytes frame kindMeaning infoMeaning
     served-waiting p reads small =
         served Confirm since rounds b p reads i buffer buffered true _ TelemetryResponse 0 (infoBytes (unitAt l own n i buffer buffered true)) Stay refl
         (record { plain = refl; tells = refl; fields = rw (info-length _ _ _ _) })
@@ -182,7 +182,7 @@ module _ (l : Link) (s t own : ℕ) (a : Addressed l s t own) (file : List ℕ) 
 
     -- and once it is stored its own.
     pub served-confirmed : (p : List ℕ) → linkRead l b ≡ given (asked Confirm) p → i < 65535 → Served file (sender Confirm) (unitAt l own n (i + 1) buffer buffered false) store b (unitAt l own n (i + 1) buffer buffered false) Forward
-    unfolding linkCarried idCarried isEvent kindReply telemetryReply answerTo told fieldChecks idLegal payloadLegal errorLegal inside require infoBytes frame kindMeaning infoMeaning
+    unfolding linkCarried carriedOn isEvent kindReply telemetryReply answerTo told fieldChecks idLegal payloadLegal errorLegal inside require infoBytes frame kindMeaning infoMeaning
     served-confirmed p reads small =
         served Confirm since rounds b p reads (i + 1) buffer buffered false _ TelemetryResponse 0 (infoBytes (unitAt l own n (i + 1) buffer buffered false)) Forward refl
         (record { plain = refl; tells = refl; fields = rw (info-length _ _ _ _) })

@@ -1,13 +1,12 @@
 -- Carried by the laws of the data: where its checks pass the payload starts within it.
 use borrow.Author.Needs.{needs}
-use mathlib.Core.Path.{_≡_, refl, ap}
+use mathlib.Core.Path.{_≡_, refl}
 use denote.Ref.{now}
 use lib.ListN.{length}
 use Rattle.message.specs.Answer.{failed, passed, number, verdictTold, readTold, within, counted, laid}
 use Rattle.message.specs.Body.{bodyMessage}
 use Rattle.message.specs.Checks.{bodyChecks}
-use Rattle.message.specs.Kinds.{errorLength, carried}
-use Rattle.message.specs.declared.Message.{Message}
+use Rattle.message.specs.Kinds.{errorLength}
 use Rattle.message.proofs.Bodies.{body-room, body-refused, body-given}
 use Rattle.message.proofs.Parts.{part-from}
 use Rattle.csp_reader.proofs.read_body.Statement.{statement}
@@ -35,10 +34,9 @@ error-length-requires : tie.Need-error-length-requires
 error-length-requires c κs = search needs
 
 sub-read-payload : tie.Need-sub-read-payload
-unfolding carried
 sub-read-payload c =
     let m = c .before .before .before .before .carried in
-    let same : errorLength (m .result .kind) ≡ errorLength (c .before .before .before .before .before .before .before .before .before .args .kind) = ap (λ (x : Message). errorLength (x .kind)) (m .ensures) in
+    let same : errorLength (m .result .kind) ≡ errorLength (c .before .before .before .before .before .before .before .before .before .args .kind) = rw (m .ensures) in
     rw (c .error-length .ensures, ← same) (body-room _ _ _ (c .before .before .before .check-body .ensures) (c .before .enum-told .given .1))
 
 part-read-payload-start : tie.Need-part-read-payload-start

@@ -11,8 +11,7 @@ use lib.ListN.{length, drop}
 use Rattle.message.specs.Answer.{failed, passed, number, verdictTold, readTold, within, counted, laid}
 use Rattle.message.specs.Body.{bodyMessage}
 use Rattle.message.specs.Checks.{bodyChecks}
-use Rattle.message.specs.Kinds.{errorLength, carried}
-use Rattle.message.specs.declared.Message.{Message}
+use Rattle.message.specs.Kinds.{errorLength}
 use Rattle.message.proofs.Bodies.{body-room}
 use Rattle.message.proofs.Tables.{error-length-two}
 use Rattle.stuffing.specs.Stuffing.{frameScan}
@@ -91,12 +90,11 @@ add-skipped : tie.Need-add-skipped
 add-skipped c = omega (arith, error-length-two (c .before .before .before .before .before .before .before .before .before .before .before .before .before .args .kind), c .before .before .before .before .before .before .before .before .before .before .before .before .before .pre .1 .1 .1)
 
 read-payload-requires : tie.Need-read-payload-requires
-unfolding carried
 read-payload-requires c κs =
     let a = c .before .before .before .before .before .before .before .before .before .before .before .before .before .before .args in
     let p = c .before .before .before .before .before .before .before .before .before .before .before .before .before .before .pre in
     let m = c .before .before .before .before .before .before .before .carried in
-    let same : errorLength (m .result .kind) ≡ errorLength (a .kind) = ap (λ (x : Message). errorLength (x .kind)) (m .ensures) in
+    let same : errorLength (m .result .kind) ≡ errorLength (a .kind) = rw (m .ensures) in
     let room : errorLength (m .result .kind) ≤ a .count - a .head = body-room _ _ _ (c .before .before .before .before .before .before .check-body .ensures) (c .before .before .before .before .enum-told .given .1) in
     (p .0, (p .1 .0, omega (arith, room, same, c .before .error-length .ensures, p .1 .1 .0)))
 
