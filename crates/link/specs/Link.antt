@@ -1,4 +1,4 @@
--- The four links under one roof (document 01, "Messages", "The two serial links", "CAN and CSP"): reading and writing by link, and
+-- The four links as one type (document 01, "Messages", "The two serial links", "CAN and CSP"): reading and writing by link, and
 -- which field is carried where.
 use Prim.Native.Nat.{ℕ}
 use mathlib.Core.Bool.{Bool, true, false}
