@@ -37,6 +37,10 @@ read-writes Rs485 b m p e = serial.read-writes SerialLink·of.Rs485 b m p e
 read-writes Can b m p e = can.read-writes b m p e
 read-writes Csp b m p e = csp.read-writes b m p e
 
+-- A written message and what the link carries of it give the same bytes: writing does not look at the other fields.
+pub carried-writes : (l : Link) (m : Message) (p b : List ℕ) → linkWrite l m p ≡ written b → linkWrite l (linkCarried l m) p ≡ written b
+carried-writes l m p b e = read-writes l b (linkCarried l m) p (bytes-read l m p b e)
+
 -- So what was read has a payload of at most 256 bytes.
 pub read-most : (l : Link) (b : List ℕ) (m : Message) (p : List ℕ) → linkRead l b ≡ given m p → length p ≤ 256
 read-most l b m p e = payload-most l m p b (read-writes l b m p e)
