@@ -24,13 +24,13 @@ use Rattle.can.proofs.Series.{single-type, series-type, single-back, se
 series-kind : (k : Kind) (n : ℕ) → payloadLegal k n ≡ true → inSeries k n ≡ true
     → (typeLegal (seriesType k) ≡ true) × (leb 7 (seriesType k) ≡ true) × (kindOfType (seriesType k) ≡ k) × (canFits (seriesType k) n ≡ true) × (8 < n) × (n ≤ 256)
 unfolding payloadLegal inside inSeries isEvent typeLegal kindOfType canFits
-series-kind Telecommand n p s = let long = ltb-true 8 n s in let most = both-true (leb 0 n) (leb n 256) p in (refl, refl, refl, rw (p, s), long, leb-true n 256 (most .1))
+series-kind Telecommand n p s = let long = ltb-true 8 n s in let most = both-true (leb 0 n) (leb n 256) p in (refl, refl, refl, rw p (lt-ltb _ n (omega arith)), long, leb-true n 256 (most .1))
 series-kind TelecommandAck n p s = absurd (omega (arith, leb-true n 0 (both-true (leb 0 n) (leb n 0) p .1), ltb-true 8 n s))
 series-kind TelecommandNack n p s = absurd (omega (arith, leb-true n 0 (both-true (leb 0 n) (leb n 0) p .1), ltb-true 8 n s))
 series-kind TelemetryRequest n p s = absurd (omega (arith, leb-true n 0 (both-true (leb 0 n) (leb n 0) p .1), ltb-true 8 n s))
-series-kind TelemetryResponse n p s = let long = ltb-true 8 n s in let most = both-true (leb 0 n) (leb n 256) p in (refl, refl, refl, rw (p, s), long, leb-true n 256 (most .1))
+series-kind TelemetryResponse n p s = let long = ltb-true 8 n s in let most = both-true (leb 0 n) (leb n 256) p in (refl, refl, refl, rw p (lt-ltb _ n (omega arith)), long, leb-true n 256 (most .1))
 series-kind TelemetryNack n p s = absurd (omega (arith, leb-true n 0 (both-true (leb 0 n) (leb n 0) p .1), ltb-true 8 n s))
-series-kind Event n p s = let h = both-true (leb 24 n) (leb n 24) p in let low = leb-true 24 n (h .0) in let high = leb-true n 24 (h .1) in (refl, refl, refl, rw (p, lt-ltb 8 n (omega arith)), omega arith, omega arith)
+series-kind Event n p s = let h = both-true (leb 24 n) (leb n 24) p in let low = leb-true 24 n (h .0) in let high = leb-true n 24 (h .1) in (refl, refl, refl, rw p (lt-ltb _ n (omega arith)), omega arith, omega arith)
 
 -- and in a single frame.
 single-kind : (k : Kind) (n : ℕ) → payloadLegal k n ≡ true → inSeries k n ≡ false
@@ -102,16 +102,19 @@ bytes-read m p legal fits = by (inSeries (m .kind) (length p)) refl
     id : ℕ
     id = getD (identifier 0 m) 2 0
 
+    legal-id : canIdLegal (m .kind) id ≡ true
+    legal-id = can-id (m .kind) (m .id) legal
+
     by : (b : Bool) → inSeries (m .kind) (length p) ≡ b → canRead (canBytes m p) ≡ given (canCarried m) p
     by true q =
         let s = series-kind (m .kind) (length p) fits q in
         let f = series-fields (m .destination) (m .source) id (seriesType (m .kind)) (length p / 7) p in
         rw (q, series-all (m .destination) (m .source) id (seriesType (m .kind)) (length p / 7) p (s .0) (s .1) (s .4) (s .5) refl)
-        (complete-given _ _ _ id (seriesType (m .kind)) p (m .kind) (f .0) (f .1) (f .2) (f .3) (s .2) (can-id (m .kind) (m .id) legal) (s .3))
+        (complete-given _ _ _ id (seriesType (m .kind)) p (m .kind) (f .0) (f .1) (f .2) (f .3) (s .2) legal-id (s .3))
     by false q =
         let s = single-kind (m .kind) (length p) fits q in
         rw (q, single-frame (m .destination) (m .source) id (typeNumber (m .kind)) p (s .5) (s .0) (s .1) (s .3))
-        (complete-given _ _ _ id (typeNumber (m .kind)) p (m .kind) refl refl refl refl (s .2) (can-id (m .kind) (m .id) legal) (s .4))
+        (complete-given _ _ _ id (typeNumber (m .kind)) p (m .kind) refl refl refl refl (s .2) legal-id (s .4))
 
 pub written-reads : (m : Message) (p b : List ℕ) → canWrite m p ≡ written b → canRead b ≡ given (canCarried m) p
 unfolding canWrite writeChecks
