@@ -1,6 +1,6 @@
 -- Both round trips of CAN (demand 2), by induction on the frames still to come.
 use Prim.Native.Nat.{ℕ, zero, suc, _+_, _*_, _/_, _≤_, _<_}
-use mathlib.Core.Bool.{Bool, true, false, cond, _&&_, _||_}
+use mathlib.Core.Bool.{Bool, true, false, cond, _&&_, _||_, or-true}
 use mathlib.Core.List.{List, [], _∷_, _++_, append-nil}
 use mathlib.Core.Path.{_≡_, refl, sym, _∙_}
 use native.Mathlib.Omega.{arith}
@@ -125,7 +125,7 @@ written-reads m p b e =
     rw (← g .2) (bytes-read m p (h .0) (h .1))
 
 -- CAN can write every kind,
-can-writable : (m : Message) → writable canCarries m ≡ true
+pub can-writable : (m : Message) → writable canCarries m ≡ true
 unfolding writable
 can-writable m = by (isEvent (m .kind)) refl
   where
@@ -145,7 +145,7 @@ id-back TelemetryNack id h = (h, refl)
 id-back Event id h = let e = eqb-true id 255 h in (rw e, sym e)
 
 -- and the error that a message without an error byte reads as.
-error-back : (k : Kind) → errorLegal k (canError k) ≡ true
+pub error-back : (k : Kind) → errorLegal k (canError k) ≡ true
 unfolding errorLegal canError isNack isAck inside
 error-back Telecommand = refl
 error-back TelecommandAck = refl
@@ -155,8 +155,12 @@ error-back TelemetryResponse = refl
 error-back TelemetryNack = refl
 error-back Event = refl
 
+pub empty : (r : List ℕ) → length r ≡ 0 → r ≡ []
+empty [] h = refl
+empty (x ∷ r) h = absurd (omega arith)
+
 -- What a complete input was made of.
-complete-back : (b : List ℕ) (x : Answer (List ℕ) (List ℕ)) (m : Message) (p : List ℕ) → complete b x ≡ given m p
+pub complete-back : (b : List ℕ) (x : Answer (List ℕ) (List ℕ)) (m : Message) (p : List ℕ) → complete b x ≡ given m p
     → (x ≡ given [] p) × (canMessage b ≡ m) × (canIdLegal (kindOfType (getD b 3 0)) (getD b 2 0) ≡ true) × (canFits (getD b 3 0) (length p) ≡ true)
 unfolding complete
 complete-back b (refused n) m p e = absurd (let z : _≡_ {A = ℕ} 0 1 = cc in omega arith)
@@ -166,14 +170,6 @@ complete-back b (given rest q) m p e =
     let h5 = require-passed (canIdLegal (kindOfType (getD b 3 0)) (getD b 2 0)) 5 _ (h4 .1) in
     let h6 = require-passed (canFits (getD b 3 0) (length q)) 6 passed (h5 .1) in
     (rw (empty rest (eqb-true (length rest) 0 (h4 .0)), g .2), g .1, h5 .0, rw (← g .2) (h6 .0))
-  where
-    empty : (r : List ℕ) → length r ≡ 0 → r ≡ []
-    empty [] h = refl
-    empty (x ∷ r) h = absurd (omega arith)
-
-or-true : (b : Bool) → (b || true) ≡ true
-or-true true = refl
-or-true false = refl
 
 -- Writing what was read returns the bytes: first of an input that has an identifier and a DLC,
 module _ (a b c t l : ℕ) (s : List ℕ) where

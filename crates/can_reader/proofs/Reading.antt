@@ -1,7 +1,8 @@
--- The laws of reading: what the checks of a message come to, and how the payload of its frames fills the output frame by frame.
+-- The laws of reading: what the checks of a message come to, and how the payload of its frames fills the output frame by frame. Carried by
+-- the case of each check, and by induction on the frames still to come.
 use Prim.Native.Nat.{ℕ, zero, suc, _+_, _-_, _≤_, _<_}
 use mathlib.Core.Bool.{Bool, true, false, cond, _&&_, _||_}
-use mathlib.Core.List.{List, [], _∷_, _++_, append-assoc}
+use mathlib.Core.List.{List, [], _++_, append-assoc}
 use mathlib.Core.Path.{_≡_, refl, ap, sym, _∙_}
 use native.Mathlib.Nat.{zero-add}
 use native.Mathlib.Omega.{arith}
@@ -10,17 +11,19 @@ use lib.Dec.{leb, ltb, eqb}
 use lib.ListN.{length, getD, take, drop, length-append, length-drop}
 use lib.Seq.{drop-drop, drop-at, length-take-le, sets, sets-eq}
 use Rattle.message.specs.Answer.{Answer, Check, refused, given, passed, failed, require, after, within, counted, laid, written}
-use Rattle.message.specs.Checks.{idLegal, payloadLegal, errorLegal, fieldChecks, writable, writeChecks}
-use Rattle.message.specs.Kinds.{inside, isAck, isNack, isEvent}
+use Rattle.message.specs.Checks.{idLegal, payloadLegal, fieldChecks, writeChecks}
+use Rattle.message.specs.Kinds.{inside, isEvent}
 use Rattle.message.specs.declared.Kind.{Kind}
 use Rattle.message.specs.declared.Kind.the-variants.{Telecommand, TelecommandAck, TelecommandNack, TelemetryRequest, TelemetryResponse, TelemetryNack, Event}
 use Rattle.message.specs.declared.Message.{Message}
 use Rattle.message.proofs.Checks.{require-passed}
 use Rattle.message.proofs.Answers.{too-short, long-enough, after-passed}
 use Rattle.message.proofs.Stores.{sets-append}
-use Rattle.can.specs.Can.{firstChecks, laterChecks, prepend, laterFrames, allFrames, canMessage, complete, canRead, canCarries, canError, kindOfType, canIdLegal, canFits}
+use Rattle.can.specs.Can.{firstChecks, laterChecks, laterFrames, allFrames, canMessage, complete, canRead, canCarries, canError, kindOfType, canIdLegal, canFits}
+use Rattle.can.proofs.RoundTrip.{can-writable, error-back, empty, complete-back}
+use Rattle.can.proofs.Series.{prepend-given}
 use Rattle.can_frames.specs.Told.{measured}
-use Rattle.can_frames.proofs.Scanning.{payload, counted-given, refused-measured, first-fits, fits-series, all-single, all-series, first-dlc, single-counted, later-passed, passed-dlc}
+use Rattle.can_frames.proofs.Scanning.{payload, counted-given, refused-measured, all-single, all-series, single-dlc, series-dlc, single-counted, later-passed, passed-dlc}
 
 -- An event's ID is 255; that of another kind is of the kind's range.
 pub can-id-wrong : (k : Kind) (id : ℕ) → cond (isEvent k) (eqb id 255) true ≡ false → canIdLegal k id ≡ false
@@ -42,28 +45,10 @@ can-id-plain TelemetryNack id e = refl
 can-id-plain Event id e = rw (eqb-true id 255 e)
 
 -- The error that CAN reads for a kind is legal, so of the checks of a message to be written 5 and 6 are left.
-error-legal : (k : Kind) → errorLegal k (canError k) ≡ true
-unfolding errorLegal canError isNack isAck inside
-error-legal Telecommand = refl
-error-legal TelecommandAck = refl
-error-legal TelecommandNack = refl
-error-legal TelemetryRequest = refl
-error-legal TelemetryResponse = refl
-error-legal TelemetryNack = refl
-error-legal Event = refl
-
-all-written : (m : Message) → writable canCarries m ≡ true
-unfolding writable
-all-written m = by (isEvent (m .kind))
-  where
-    by : (b : Bool) → cond b true true ≡ true
-    by true = refl
-    by false = refl
-
 pub written-checks : (m : Message) (n : ℕ) → m .error ≡ canError (m .kind)
     → writeChecks canCarries m n ≡ require (idLegal (m .kind) (m .id)) 5 (require (payloadLegal (m .kind) n) 6 passed)
 unfolding writeChecks fieldChecks require
-written-checks m n e = rw (all-written m, e, error-legal (m .kind))
+written-checks m n e = rw (can-writable m, e, error-back (m .kind))
 
 -- What CAN adds to the checks of the kinds comes behind them.
 checks-failed : (a b x : Bool) (k : ℕ) → require a 5 (require b 6 passed) ≡ failed k → require a 5 (require (b && x) 6 passed) ≡ failed k
@@ -152,25 +137,11 @@ frames-first b rest p e =
 pub counted-first : (b rest : List ℕ) (n : ℕ) → counted (allFrames b) ≡ given rest n → (13 ≤ length b) × (firstChecks (take 13 b) ≡ passed)
 counted-first b rest n e = frames-first b rest (payload (allFrames b)) (counted-given (allFrames b) rest n e .0)
 
-empty : (l : List ℕ) → length l ≡ 0 → l ≡ []
-empty [] h = refl
-empty (a ∷ l) h = absurd (omega arith)
-
 -- A message that was read is that of its frames, all of the input.
-complete-given : (b : List ℕ) (x : Answer (List ℕ) (List ℕ)) (m : Message) (p : List ℕ) → complete b x ≡ given m p → x ≡ given [] p
-unfolding complete
-complete-given b (refused k) m p e = absurd (let z : _≡_ {A = ℕ} 0 1 = cc in omega arith)
-complete-given b (given r q) m p e =
-    let h = after-passed (require (eqb (length r) 0) 4 (MessageChecks b (length q))) (given (canMessage b) q) m p e in
-    let h4 = require-passed (eqb (length r) 0) 4 (MessageChecks b (length q)) (h .0) in
-    let none : r ≡ [] = empty r (eqb-true (length r) 0 (h4 .0)) in
-    let same : q ≡ p = cc (h .1) in
-    rw (none, same)
-
 module _ (b : List ℕ) (m : Message) (n : ℕ) (told : counted (canRead b) ≡ given m n) where
   all-given : allFrames b ≡ given [] (payload (canRead b))
   unfolding canRead
-  all-given = complete-given b (allFrames b) m (payload (canRead b)) (counted-given (canRead b) m n told .0)
+  all-given = complete-back b (allFrames b) m (payload (canRead b)) (counted-given (canRead b) m n told .0) .0
 
   pub read-frames : counted (allFrames b) ≡ given [] n
   unfolding counted
@@ -185,7 +156,7 @@ module _ (b : List ℕ) (m : Message) (n : ℕ) (told : counted (canRead b) ≡ 
   read-single h =
       let f = counted-first b [] n read-frames in
       let size : getD b 4 0 ≡ n = cc (single-counted b (f .0) (f .1) h, read-frames) in
-      let d = first-dlc b (f .0) (f .1) in
+      let d = single-dlc b (f .0) (f .1) h in
       let long : length (take n (drop 5 b)) ≡ n = length-take-le n (drop 5 b) (rw length-drop (omega (arith, d, size, f .0))) in
       (omega (arith, d, size, f .0), λ out. read-laid out ∙ ap (λ (x : Answer (List ℕ) (List ℕ)). laid x out) (all-single b (f .0) (f .1) h) ∙ rw (size, long))
 
@@ -213,11 +184,6 @@ run-more b n at q room low high run =
     let same : drop (getD b (at + 4) 0 - 1) (d ++ q) ≡ q = drop-at d q (getD b (at + 4) 0 - 1) size in
     (room, low, high, ap (λ (x : List ℕ). d ++ x) same, rw same run)
 
-prepend-given : (d : List ℕ) (x : Answer (List ℕ) (List ℕ)) (r p : List ℕ) → prepend d x ≡ given r p → (x ≡ given r (payload x)) × (d ++ payload x ≡ p)
-unfolding prepend
-prepend-given d (refused k) r p e = absurd (let z : _≡_ {A = ℕ} 0 1 = cc in omega arith)
-prepend-given d (given s q) r p e = (cc, cc)
-
 later-run : (b i : List ℕ) (n at : ℕ) (r p : List ℕ) → laterFrames i n (drop at b) ≡ given r p → Run b n at p
 unfolding Run laterFrames
 later-run b i zero at r p e = cc
@@ -227,15 +193,15 @@ later-run b i (suc n) at r p e =
     let room : 13 ≤ length b - at = rw length-drop at (leb-true 13 (length (drop at b)) (h1 .0)) in
     let d = passed-dlc b i n at (h1 .1) in
     let g = prepend-given _ _ r p (sym (later-passed b i n at room (h1 .1)) ∙ e) in
-    rw (← g .1) (run-more b n at (payload (laterFrames i n (drop (at + 13) b))) (omega (arith, room)) (d .0) (d .1) (later-run b i n (at + 13) r _ (g .0)))
+    rw (← g .2) (run-more b n at (g .0) (omega (arith, room)) (d .0) (d .1) (later-run b i n (at + 13) r (g .0) (g .1)))
 
 pub series-run : (b r p : List ℕ) → allFrames b ≡ given r p → 7 ≤ getD b 3 0 → Run b (suc (getD b 12 0)) 0 p
 series-run b r p e h =
     let f = frames-first b r p e in
-    let dlc : getD b 4 0 ≡ 8 = fits-series (getD b 3 0) (getD b 4 0) (getD b 12 0) h (first-fits b (f .1)) in
+    let dlc : getD b 4 0 ≡ 8 = series-dlc b (f .0) (f .1) h in
     let g = prepend-given (take 7 (drop 5 b)) _ r p (sym (all-series b (f .0) (f .1) h) ∙ e) in
-    let m = run-more b (getD b 12 0) 0 (payload (laterFrames (take 4 b) (getD b 12 0) (drop 13 b))) (f .0) (omega (arith, dlc)) (omega (arith, dlc)) (later-run b (take 4 b) (getD b 12 0) 13 r _ (g .0)) in
-    rw (← g .1) (rw dlc at m)
+    let m = run-more b (getD b 12 0) 0 (g .0) (f .0) (omega (arith, dlc)) (omega (arith, dlc)) (later-run b (take 4 b) (getD b 12 0) 13 r (g .0) (g .1)) in
+    rw (← g .2) (rw dlc at m)
 
 -- What `lay` leaves of an output behind the first bytes are stores from there on.
 pub lay-sets : (d out part : List ℕ) (to : ℕ) → to + length d ≤ length out → part ≡ laid (within (drop to out) (written d)) (drop to out) → take to out ++ part ≡ sets out to d
