@@ -10,12 +10,15 @@ use borrow.Author.Tests.{ne-eqb, eqb-true, leb-true}
 use lib.Dec.{leb, ltb, eqb}
 use lib.ListN.{length, getD, take, drop, length-append, length-drop}
 use lib.Seq.{drop-drop, drop-at, length-take-le, sets, sets-eq}
-use Rattle.message.specs.Answer.{Answer, Check, refused, given, passed, failed, require, after, within, counted, laid, written}
+use Rattle.message.specs.Answer.{Answer, Check, refused, given, number, passed, failed, require, after, within, counted, laid, written, verdictTold}
 use Rattle.message.specs.Checks.{idLegal, payloadLegal, fieldChecks, writeChecks}
 use Rattle.message.specs.Kinds.{inside, isEvent}
 use Rattle.message.specs.declared.Kind.{Kind}
 use Rattle.message.specs.declared.Kind.the-variants.{Telecommand, TelecommandAck, TelecommandNack, TelemetryRequest, TelemetryResponse, TelemetryNack, Event}
 use Rattle.message.specs.declared.Message.{Message}
+use Rattle.message.specs.declared.Refusal.{Refusal}
+use Rattle.message.specs.declared.Verdict.{Verdict}
+use Rattle.message.specs.declared.Verdict.the-variants.{Passed, Refused}
 use Rattle.message.proofs.Checks.{require-passed}
 use Rattle.message.proofs.Answers.{too-short, long-enough, after-passed}
 use Rattle.message.proofs.Stores.{sets-append}
@@ -23,7 +26,7 @@ use Rattle.can.specs.Can.{firstChecks, laterChecks, laterFrames, allFrames, can
 use Rattle.can.proofs.RoundTrip.{can-writable, error-back, empty, complete-back}
 use Rattle.can.proofs.Series.{prepend-given}
 use Rattle.can_frames.specs.Told.{measured}
-use Rattle.can_frames.proofs.Scanning.{payload, counted-given, refused-measured, all-single, all-series, single-dlc, series-dlc, single-counted, later-passed, passed-dlc}
+use Rattle.can_frames.proofs.Scanning.{payload, counted-given, behind, refused-measured, given-measured, all-single, all-series, single-dlc, series-dlc, single-counted, later-passed, passed-dlc}
 
 -- An event's ID is 255; that of another kind is of the kind's range.
 pub can-id-wrong : (k : Kind) (id : ℕ) → cond (isEvent k) (eqb id 255) true ≡ false → canIdLegal k id ≡ false
@@ -93,6 +96,17 @@ pub frames-refused : (b : List ℕ) (k : ℕ) → measured (allFrames b) ≡ ref
 unfolding canRead complete
 frames-refused b k e = rw (refused-measured (allFrames b) k e)
 
+-- Frames that are given passed the checks of the first.
+frames-first : (b rest p : List ℕ) → allFrames b ≡ given rest p → (13 ≤ length b) × (firstChecks (take 13 b) ≡ passed)
+unfolding allFrames
+frames-first b rest p e =
+    let h = after-passed (require (leb 13 (length b)) 1 (firstChecks (take 13 b))) _ rest p e in
+    let h1 = require-passed (leb 13 (length b)) 1 (firstChecks (take 13 b)) (h .0) in
+    (leb-true 13 (length b) (h1 .0), h1 .1)
+
+pub counted-first : (b rest : List ℕ) (n : ℕ) → counted (allFrames b) ≡ given rest n → (13 ≤ length b) × (firstChecks (take 13 b) ≡ passed)
+counted-first b rest n e = frames-first b rest (payload (allFrames b)) (counted-given (allFrames b) rest n e .0)
+
 -- Frames that passed their checks, with a payload of n bytes: what is left are the checks of the message.
 abbrev MessageChecks : List ℕ → ℕ → Check
 MessageChecks b n = require (canIdLegal (kindOfType (getD b 3 0)) (getD b 2 0)) 5 (require (canFits (getD b 3 0) n) 6 passed)
@@ -105,37 +119,33 @@ complete-checked : (b r p : List ℕ) → length r ≡ 0 → complete b (given r
 unfolding complete
 complete-checked b r p h = rw h (no-more (MessageChecks b (length p)) (given (canMessage b) p))
 
-module _ (b rest : List ℕ) (n : ℕ) (frames : counted (allFrames b) ≡ given rest n) where
-  pub whole-trailing : 0 < length rest → canRead b ≡ refused 4
+-- The same as the scan tells it: so many bytes are left, and the payload has n.
+module _ (b : List ℕ) (left n : ℕ) (frames : measured (allFrames b) ≡ given left n) where
+  scanned : (counted (allFrames b) ≡ given (behind (allFrames b)) n) × (length (behind (allFrames b)) ≡ left)
+  scanned = given-measured (allFrames b) left n frames
+
+  pub whole-long : 13 ≤ length b
+  whole-long = counted-first b (behind (allFrames b)) n (scanned .0) .0
+
+  pub whole-trailing : 0 < left → canRead b ≡ refused 4
   unfolding canRead complete require after
-  whole-trailing h = rw (counted-given (allFrames b) rest n frames .0, ne-eqb (length rest) 0 (λ z. omega (arith, z)))
+  whole-trailing h = rw (counted-given (allFrames b) _ n (scanned .0) .0, ne-eqb (length (behind (allFrames b))) 0 (λ z. omega (arith, z, scanned .1)))
 
-  whole-checked : length rest ≡ 0 → canRead b ≡ after (MessageChecks b n) (given (canMessage b) (payload (allFrames b)))
-  unfolding canRead
-  whole-checked h =
-      let g = counted-given (allFrames b) rest n frames in
-      ap (complete b) (g .0) ∙ complete-checked b rest (payload (allFrames b)) h ∙ rw (g .1)
+  -- With nothing left, the verdict on the message that the first frame tells decides.
+  module _ (none : left ≤ 0) (m : Message) (first : m ≡ canMessage b) (v : Verdict) (told : verdictTold v ≡ require (canIdLegal (kindOfType (getD b 3 0)) (m .id)) 5 (require (canFits (getD b 3 0) n) 6 passed)) where
+    whole-checked : canRead b ≡ after (verdictTold v) (given m (payload (allFrames b)))
+    unfolding canRead canMessage
+    whole-checked =
+        let g = counted-given (allFrames b) _ n (scanned .0) in
+        ap (complete b) (g .0) ∙ complete-checked b _ (payload (allFrames b)) (omega (arith, scanned .1)) ∙ rw (g .1, told, first)
 
-  pub whole-failed : (k : ℕ) → length rest ≡ 0 → MessageChecks b n ≡ failed k → canRead b ≡ refused k
-  unfolding after
-  whole-failed k h e = whole-checked h ∙ rw e
+    pub whole-refused : (r : Refusal) → v ≡ Refused r → canRead b ≡ refused (number r)
+    unfolding after verdictTold
+    whole-refused r e = whole-checked ∙ rw e
 
-  pub whole-passed : length rest ≡ 0 → MessageChecks b n ≡ passed → counted (canRead b) ≡ given (canMessage b) n
-  unfolding after counted
-  whole-passed h e =
-      let all : canRead b ≡ given (canMessage b) (payload (allFrames b)) = whole-checked h ∙ rw e in
-      ap counted all ∙ ap (given (canMessage b)) (counted-given (allFrames b) rest n frames .1)
-
--- Frames that are given passed the checks of the first.
-pub frames-first : (b rest p : List ℕ) → allFrames b ≡ given rest p → (13 ≤ length b) × (firstChecks (take 13 b) ≡ passed)
-unfolding allFrames
-frames-first b rest p e =
-    let h = after-passed (require (leb 13 (length b)) 1 (firstChecks (take 13 b))) _ rest p e in
-    let h1 = require-passed (leb 13 (length b)) 1 (firstChecks (take 13 b)) (h .0) in
-    (leb-true 13 (length b) (h1 .0), h1 .1)
-
-pub counted-first : (b rest : List ℕ) (n : ℕ) → counted (allFrames b) ≡ given rest n → (13 ≤ length b) × (firstChecks (take 13 b) ≡ passed)
-counted-first b rest n e = frames-first b rest (payload (allFrames b)) (counted-given (allFrames b) rest n e .0)
+    pub whole-given : v ≡ Passed → counted (canRead b) ≡ given m n
+    unfolding after verdictTold counted
+    whole-given e = rw (whole-checked, e) (ap (given m) (counted-given (allFrames b) _ n (scanned .0) .1))
 
 -- A message that was read is that of its frames, all of the input.
 module _ (b : List ℕ) (m : Message) (n : ℕ) (told : counted (canRead b) ≡ given m n) where
