@@ -1,4 +1,5 @@
--- The checks of a frame by its bytes, in their order: 2, 6, 7, and 10 last.
+-- The checks of a frame by its bytes, in their order: 2, 6, 7, and 10 last. Carried by the laws of `drop`: a byte of the data is a byte of
+-- the frame, five further on.
 use Prim.Native.Nat.{ℕ, zero, suc, _+_, _-_, _≤_}
 use mathlib.Core.Bool.{true, _&&_}
 use mathlib.Core.List.{List}

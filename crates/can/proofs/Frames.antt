@@ -1,4 +1,5 @@
--- The laws of one frame: written, it passes the checks of its place and gives its data back, with what follows it.
+-- The laws of one frame: written, it passes the checks of its place and gives its data back, with what follows it. Carried by its length,
+-- since used bytes and zeros are always eight: `take` and `drop` of a concatenation then find each part.
 use Prim.Native.Nat.{ℕ, zero, suc, _-_, _≤_}
 use mathlib.Core.Bool.{true, false, _&&_}
 use mathlib.Core.List.{List, [], _∷_, _++_, append-assoc}

@@ -1,6 +1,6 @@
 -- Both round trips of CAN (demand 2), by induction on the frames still to come.
 use Prim.Native.Nat.{ℕ, zero, suc, _+_, _*_, _/_, _≤_, _<_}
-use mathlib.Core.Bool.{Bool, true, false, cond, _&&_, _||_}
+use mathlib.Core.Bool.{Bool, true, false, cond, _&&_, _||_, or-true}
 use mathlib.Core.List.{List, [], _∷_, _++_, append-nil}
 use mathlib.Core.Path.{_≡_, refl, sym, _∙_}
 use native.Mathlib.Omega.{arith}
@@ -24,13 +24,13 @@ use Rattle.can.proofs.Series.{single-type, series-type, single-back, se
 series-kind : (k : Kind) (n : ℕ) → payloadLegal k n ≡ true → inSeries k n ≡ true
     → (typeLegal (seriesType k) ≡ true) × (leb 7 (seriesType k) ≡ true) × (kindOfType (seriesType k) ≡ k) × (canFits (seriesType k) n ≡ true) × (8 < n) × (n ≤ 256)
 unfolding payloadLegal inside inSeries isEvent typeLegal kindOfType canFits
-series-kind Telecommand n p s = let long = ltb-true 8 n s in let most = both-true (leb 0 n) (leb n 256) p in (refl, refl, refl, rw (p, s), long, leb-true n 256 (most .1))
+series-kind Telecommand n p s = let long = ltb-true 8 n s in let most = both-true (leb 0 n) (leb n 256) p in (refl, refl, refl, rw p (lt-ltb _ n (omega arith)), long, leb-true n 256 (most .1))
 series-kind TelecommandAck n p s = absurd (omega (arith, leb-true n 0 (both-true (leb 0 n) (leb n 0) p .1), ltb-true 8 n s))
 series-kind TelecommandNack n p s = absurd (omega (arith, leb-true n 0 (both-true (leb 0 n) (leb n 0) p .1), ltb-true 8 n s))
 series-kind TelemetryRequest n p s = absurd (omega (arith, leb-true n 0 (both-true (leb 0 n) (leb n 0) p .1), ltb-true 8 n s))
-series-kind TelemetryResponse n p s = let long = ltb-true 8 n s in let most = both-true (leb 0 n) (leb n 256) p in (refl, refl, refl, rw (p, s), long, leb-true n 256 (most .1))
+series-kind TelemetryResponse n p s = let long = ltb-true 8 n s in let most = both-true (leb 0 n) (leb n 256) p in (refl, refl, refl, rw p (lt-ltb _ n (omega arith)), long, leb-true n 256 (most .1))
 series-kind TelemetryNack n p s = absurd (omega (arith, leb-true n 0 (both-true (leb 0 n) (leb n 0) p .1), ltb-true 8 n s))
-series-kind Event n p s = let h = both-true (leb 24 n) (leb n 24) p in let low = leb-true 24 n (h .0) in let high = leb-true n 24 (h .1) in (refl, refl, refl, rw (p, lt-ltb 8 n (omega arith)), omega arith, omega arith)
+series-kind Event n p s = let h = both-true (leb 24 n) (leb n 24) p in let low = leb-true 24 n (h .0) in let high = leb-true n 24 (h .1) in (refl, refl, refl, rw p (lt-ltb _ n (omega arith)), omega arith, omega arith)
 
 -- and in a single frame.
 single-kind : (k : Kind) (n : ℕ) → payloadLegal k n ≡ true → inSeries k n ≡ false
@@ -102,16 +102,19 @@ bytes-read m p legal fits = by (inSeries (m .kind) (length p)) refl
     id : ℕ
     id = getD (identifier 0 m) 2 0
 
+    legal-id : canIdLegal (m .kind) id ≡ true
+    legal-id = can-id (m .kind) (m .id) legal
+
     by : (b : Bool) → inSeries (m .kind) (length p) ≡ b → canRead (canBytes m p) ≡ given (carriedOn true false m) p
     by true q =
         let s = series-kind (m .kind) (length p) fits q in
         let f = series-fields (m .destination) (m .source) id (seriesType (m .kind)) (length p / 7) p in
         rw (q, series-all (m .destination) (m .source) id (seriesType (m .kind)) (length p / 7) p (s .0) (s .1) (s .4) (s .5) refl)
-        (complete-given _ _ _ id (seriesType (m .kind)) p (m .kind) (f .0) (f .1) (f .2) (f .3) (s .2) (can-id (m .kind) (m .id) legal) (s .3))
+        (complete-given _ _ _ id (seriesType (m .kind)) p (m .kind) (f .0) (f .1) (f .2) (f .3) (s .2) legal-id (s .3))
     by false q =
         let s = single-kind (m .kind) (length p) fits q in
         rw (q, single-frame (m .destination) (m .source) id (typeNumber (m .kind)) p (s .5) (s .0) (s .1) (s .3))
-        (complete-given _ _ _ id (typeNumber (m .kind)) p (m .kind) refl refl refl refl (s .2) (can-id (m .kind) (m .id) legal) (s .4))
+        (complete-given _ _ _ id (typeNumber (m .kind)) p (m .kind) refl refl refl refl (s .2) legal-id (s .4))
 
 pub written-reads : (m : Message) (p b : List ℕ) → canWrite m p ≡ written b → canRead b ≡ given (carriedOn true false m) p
 unfolding canWrite writeChecks
@@ -122,7 +125,7 @@ written-reads m p b e =
     rw (← g .2) (bytes-read m p (h .0) (h .1))
 
 -- CAN can write every kind,
-can-writable : (m : Message) → writable canCarries m ≡ true
+pub can-writable : (m : Message) → writable canCarries m ≡ true
 unfolding writable
 can-writable m = by (isEvent (m .kind)) refl
   where
@@ -142,7 +145,7 @@ id-back TelemetryNack id h = (h, refl)
 id-back Event id h = let e = eqb-true id 255 h in (rw e, sym e)
 
 -- and the error that a message without an error byte reads as.
-error-back : (k : Kind) → errorLegal k (canError k) ≡ true
+pub error-back : (k : Kind) → errorLegal k (canError k) ≡ true
 unfolding errorLegal canError isNack isAck inside
 error-back Telecommand = refl
 error-back TelecommandAck = refl
@@ -152,8 +155,12 @@ error-back TelemetryResponse = refl
 error-back TelemetryNack = refl
 error-back Event = refl
 
+pub empty : (r : List ℕ) → length r ≡ 0 → r ≡ []
+empty [] h = refl
+empty (x ∷ r) h = absurd (omega arith)
+
 -- What a complete input was made of.
-complete-back : (b : List ℕ) (x : Answer (List ℕ) (List ℕ)) (m : Message) (p : List ℕ) → complete b x ≡ given m p
+pub complete-back : (b : List ℕ) (x : Answer (List ℕ) (List ℕ)) (m : Message) (p : List ℕ) → complete b x ≡ given m p
     → (x ≡ given [] p) × (canMessage b ≡ m) × (canIdLegal (kindOfType (getD b 3 0)) (getD b 2 0) ≡ true) × (canFits (getD b 3 0) (length p) ≡ true)
 unfolding complete
 complete-back b (refused n) m p e = absurd (let z : _≡_ {A = ℕ} 0 1 = cc in omega arith)
@@ -163,14 +170,6 @@ complete-back b (given rest q) m p e =
     let h5 = require-passed (canIdLegal (kindOfType (getD b 3 0)) (getD b 2 0)) 5 _ (h4 .1) in
     let h6 = require-passed (canFits (getD b 3 0) (length q)) 6 passed (h5 .1) in
     (rw (empty rest (eqb-true (length rest) 0 (h4 .0)), g .2), g .1, h5 .0, rw (← g .2) (h6 .0))
-  where
-    empty : (r : List ℕ) → length r ≡ 0 → r ≡ []
-    empty [] h = refl
-    empty (x ∷ r) h = absurd (omega arith)
-
-or-true : (b : Bool) → (b || true) ≡ true
-or-true true = refl
-or-true false = refl
 
 -- Writing what was read returns the bytes: first of an input that has an identifier and a DLC,
 module _ (a b c t l : ℕ) (s : List ℕ) where

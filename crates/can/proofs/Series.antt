@@ -128,6 +128,24 @@ series-type (suc (suc (suc (suc (suc (suc (suc (suc zero)))))))) legal h = refl
 series-type (suc (suc (suc (suc (suc (suc (suc (suc (suc zero))))))))) legal h = refl
 series-type (suc (suc (suc (suc (suc (suc (suc (suc (suc (suc t)))))))))) legal h = absurd (omega (arith, leb-true (suc (suc (suc (suc (suc (suc (suc (suc (suc (suc t)))))))))) 9 (both-true (leb 1 (suc (suc (suc (suc (suc (suc (suc (suc (suc (suc t))))))))))) (leb (suc (suc (suc (suc (suc (suc (suc (suc (suc (suc t)))))))))) 9) legal .1)))
 
+-- The DLC of a first frame that fits: of a single frame,
+pub first-dlc : (t l n : ℕ) → leb 7 t ≡ false → firstFits t l n ≡ true → l ≤ 8
+unfolding firstFits
+first-dlc t l n h f = by (eqb t 1 || eqb t 5) refl
+  where
+    by : (x : Bool) → (eqb t 1 || eqb t 5) ≡ x → l ≤ 8
+    by true q = leb-true l 8 (rw q at f)
+    by false q = let e = eqb-true l 0 (rw (q, h) at f) in omega arith
+
+-- and of a series, with its count.
+pub first-count : (t l n : ℕ) → leb 7 t ≡ true → firstFits t l n ≡ true → (l ≡ 8) × (1 ≤ n) × (n ≤ 36)
+unfolding firstFits
+first-count t l n h f =
+    let low = leb-true 7 t h in
+    let g = both-true (eqb l 8) (leb 1 n && leb n 36) (rw (ne-eqb t 1 (λ e. omega (arith, low, e)), ne-eqb t 5 (λ e. omega (arith, low, e)), h) at f) in
+    let k = both-true (leb 1 n) (leb n 36) (g .1) in
+    (eqb-true l 8 (g .0), leb-true 1 n (k .0), leb-true n 36 (k .1))
+
 -- The first frame that was read, single,
 first-checked : (a b c t l : ℕ) (s rest p : List ℕ) → allFrames (a ∷ b ∷ c ∷ t ∷ l ∷ s) ≡ given rest p
     → (8 ≤ length s) × (typeLegal t ≡ true) × (firstFits t l (getD (take 8 s) 7 0) ≡ true) × (zeros (drop l (take 8 s)) ≡ true)
@@ -141,22 +159,6 @@ first-checked a b c t l s rest p e =
     let h7 = require-passed (zeros (drop l (take 8 s))) 7 _ (h6 .1) in
     let long = leb-true 13 (length (a ∷ b ∷ c ∷ t ∷ l ∷ s)) (h1 .0) in
     (omega arith, h2 .0, h6 .0, h7 .0, f .1)
-
-first-dlc : (t l n : ℕ) → leb 7 t ≡ false → firstFits t l n ≡ true → l ≤ 8
-unfolding firstFits
-first-dlc t l n h f = by (eqb t 1 || eqb t 5) refl
-  where
-    by : (x : Bool) → (eqb t 1 || eqb t 5) ≡ x → l ≤ 8
-    by true q = leb-true l 8 (rw q at f)
-    by false q = let e = eqb-true l 0 (rw (q, h) at f) in omega arith
-
-first-count : (t l n : ℕ) → leb 7 t ≡ true → firstFits t l n ≡ true → (l ≡ 8) × (1 ≤ n) × (n ≤ 36)
-unfolding firstFits
-first-count t l n h f =
-    let low = leb-true 7 t h in
-    let g = both-true (eqb l 8) (leb 1 n && leb n 36) (rw (ne-eqb t 1 (λ e. omega (arith, low, e)), ne-eqb t 5 (λ e. omega (arith, low, e)), h) at f) in
-    let k = both-true (leb 1 n) (leb n 36) (g .1) in
-    (eqb-true l 8 (g .0), leb-true 1 n (k .0), leb-true n 36 (k .1))
 
 pub single-back : (a b c t l : ℕ) (s rest p : List ℕ) → leb 7 t ≡ false → allFrames (a ∷ b ∷ c ∷ t ∷ l ∷ s) ≡ given rest p
     → (a ∷ b ∷ c ∷ t ∷ l ∷ s ≡ frame (a ∷ b ∷ c ∷ t ∷ []) p ++ rest) × (length p ≤ 8) × (typeLegal t ≡ true)

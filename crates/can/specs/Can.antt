@@ -14,7 +14,8 @@ use Rattle.message.specs.declared.Kind.{Kind}
 use Rattle.message.specs.declared.Kind.the-variants.{Telecommand, TelecommandAck, TelecommandNack, TelemetryRequest, TelemetryResponse, TelemetryNack, Event}
 use Rattle.message.specs.declared.Message.{Message}
 
--- Types 1..6 are single frames, 7 a long tc, 8 a long tlmrsp, 9 an event: a kind's type in a series.
+-- Types 1..6 are single frames, 7 a long tc, 8 a long tlmrsp, 9 an event: a kind's type in a series. 2, 3, 4 and 6 are never written so:
+-- those kinds have no payload.
 abbrev pub seriesType : Kind → ℕ
 seriesType Telecommand = 7
 seriesType TelecommandAck = 2
@@ -58,6 +59,7 @@ series i (suc n) p = frame i (take 7 p ++ (suc n ∷ [])) ++ series i n (drop 7 
 unfoldable pub framesBehind : ℕ → ℕ
 framesBehind n = n / 7
 
+-- The 13-byte form of a message: one frame, or a series.
 unfoldable pub canBytes : Message → List ℕ → List ℕ
 canBytes m p =
     cond (inSeries (m .kind) (length p))
@@ -111,14 +113,14 @@ unfoldable pub laterFits : ℕ → ℕ → Bool
 laterFits zero d = leb 1 d && leb d 7
 laterFits (suc n) d = eqb d 8
 
--- 10: another identifier or a wrong count.
+-- Two identifiers are the same.
 unfoldable pub sameBytes : List ℕ → List ℕ → Bool
 sameBytes [] [] = true
 sameBytes [] (b ∷ s) = false
 sameBytes (a ∷ r) [] = false
 sameBytes (a ∷ r) (b ∷ s) = eqb a b && sameBytes r s
 
--- A later frame, with n frames still to come: 2, 6, 7, 10.
+-- A later frame, with n frames still to come: 2, 6, 7, 10 (another identifier or a wrong count).
 unfoldable pub laterChecks : List ℕ → ℕ → List ℕ → Check
 laterChecks i n f =
     require (typeLegal (typeField f)) 2
@@ -151,6 +153,7 @@ allFrames b =
 unfoldable pub canError : Kind → ErrorByte
 canError k = cond (isNack k) NotTold (Told 0)
 
+-- The message that the first frame's identifier tells; what CAN does not carry reads as 0.
 unfoldable pub canMessage : List ℕ → Message
 canMessage b =
     record {
@@ -180,5 +183,6 @@ complete b (given rest p) =
     passed)))
     (given (canMessage b) p)
 
+-- "Refusal numbers", reading CAN: the frames in their order, then the message.
 unfoldable pub canRead : List ℕ → Answer Message (List ℕ)
 canRead b = complete b (allFrames b)

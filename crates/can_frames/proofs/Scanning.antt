@@ -1,19 +1,24 @@
--- The laws of the scan: what the checks of a frame come to, and what the frames from a place on add to those before it.
+-- The laws of the scan: what the checks of a frame come to, and what the frames from a place on add to those before it. Carried by the
+-- definitions, which compute once a frame's length and checks are known, so that a count in front of a count adds up.
 use Prim.Native.Nat.{ℕ, zero, suc, _+_, _-_, _≤_, _<_}
-use mathlib.Core.Bool.{Bool, true, false, _&&_, _||_}
+use mathlib.Core.Bool.{Bool, true, false, _&&_}
 use mathlib.Core.List.{List, [], _∷_}
 use mathlib.Core.Path.{_≡_, refl, ap, sym, _∙_}
-use native.Mathlib.Nat.{add-zero}
+use native.Mathlib.Nat.{add-zero, add-sub-cancel-left}
 use native.Mathlib.Numerals.{add-one}
 use native.Mathlib.Omega.{arith}
-use borrow.Author.Tests.{le-leb, lt-leb, ne-eqb, eqb-true, leb-true}
-use lib.Dec.{leb, eqb}
+use borrow.Author.Tests.{le-leb, lt-leb, ne-eqb}
+use lib.Dec.{eqb}
 use lib.ListN.{length, getD, take, drop, drop-of-length-le, length-append, length-drop}
 use lib.Seq.{drop-cons, getD-drop, getD-take, drop-drop, length-take-le}
-use Rattle.message.specs.Answer.{Answer, refused, given, passed, failed, require, after, counted}
-use Rattle.message.proofs.Checks.{both-true, require-passed}
+use Rattle.message.specs.Answer.{Answer, refused, given, passed, failed, require, after, counted, verdictTold}
+use Rattle.message.specs.declared.Verdict.{Verdict}
+use Rattle.message.specs.declared.Verdict.the-variants.{Passed}
+use Rattle.message.proofs.Answers.{counted-refused}
+use Rattle.message.proofs.Checks.{require-passed}
 use Rattle.can.specs.Can.{typeLegal, zeros, firstFits, firstChecks, laterFits, laterChecks, sameBytes, prepend, laterFrames, allFrames}
 use Rattle.can.proofs.Checks.{first-checks-at, later-dlc}
+use Rattle.can.proofs.Series.{first-dlc, first-count}
 use Rattle.can_frames.specs.Told.{measured}
 
 -- One step of the test of the bytes past the DLC.
@@ -63,11 +68,6 @@ payload (refused n) = []
 payload (given a p) = p
 
 module _ {A : Type 0} where
-  pub counted-refused : (x : Answer A (List ℕ)) (n : ℕ) → counted x ≡ refused n → x ≡ refused n
-  unfolding counted
-  counted-refused (refused k) n e = cc
-  counted-refused (given a p) n e = absurd (let z : _≡_ {A = ℕ} 0 1 = cc in omega arith)
-
   pub counted-given : (x : Answer A (List ℕ)) (a : A) (n : ℕ) → counted x ≡ given a n → (x ≡ given a (payload x)) × (length (payload x) ≡ n)
   unfolding counted
   counted-given (refused k) a n e = absurd (let z : _≡_ {A = ℕ} 0 1 = cc in omega arith)
@@ -97,26 +97,11 @@ given-measured (refused j) k n e = absurd (let z : _≡_ {A = ℕ} 0 1 = cc in o
 given-measured (given r p) k n e = (let s : length p ≡ n = cc in ap (given r) s, cc)
 
 -- A first frame that passed its checks.
-pub first-fits : (b : List ℕ) → firstChecks (take 13 b) ≡ passed → firstFits (getD b 3 0) (getD b 4 0) (getD b 12 0) ≡ true
+first-fits : (b : List ℕ) → firstChecks (take 13 b) ≡ passed → firstFits (getD b 3 0) (getD b 4 0) (getD b 12 0) ≡ true
 first-fits b e =
     let h2 = require-passed (typeLegal (getD (take 13 b) 3 0)) 2 _ (sym (first-checks-at (take 13 b)) ∙ e) in
     let h6 = require-passed (firstFits (getD (take 13 b) 3 0) (getD (take 13 b) 4 0) (getD (take 13 b) 12 0)) 6 _ (h2 .1) in
     rw (← getD-take 13 b 3 0 (omega arith), ← getD-take 13 b 4 0 (omega arith), ← getD-take 13 b 12 0 (omega arith)) (h6 .0)
-
-fits-dlc : (t n count : ℕ) → firstFits t n count ≡ true → n ≤ 8
-unfolding firstFits
-fits-dlc t n count e = by (eqb t 1 || eqb t 5) refl (leb 7 t) refl
-  where
-    by : (p : Bool) → (eqb t 1 || eqb t 5) ≡ p → (q : Bool) → leb 7 t ≡ q → n ≤ 8
-    by true u q v = leb-true n 8 (rw u at e)
-    by false u true v = omega (arith, eqb-true n 8 (both-true (eqb n 8) (leb 1 count && leb count 36) (rw (u, v) at e) .0))
-    by false u false v = omega (arith, eqb-true n 0 (rw (u, v) at e))
-
-pub fits-series : (t n count : ℕ) → 7 ≤ t → firstFits t n count ≡ true → n ≡ 8
-unfolding firstFits
-fits-series t n count h e =
-    eqb-true n 8 (both-true (eqb n 8) (leb 1 count && leb count 36)
-    (rw (ne-eqb t 1 (λ z. omega (arith, z)), ne-eqb t 5 (λ z. omega (arith, z)), le-leb 7 t h) at e) .0)
 
 module _ (b : List ℕ) (room : 13 ≤ length b) (checks : firstChecks (take 13 b) ≡ passed) where
   pub all-single : getD b 3 0 < 7 → allFrames b ≡ given (drop 13 b) (take (getD b 4 0) (drop 5 b))
@@ -127,14 +112,17 @@ module _ (b : List ℕ) (room : 13 ≤ length b) (checks : firstChecks (take 13 
   unfolding allFrames require after
   all-series h = rw (le-leb 13 (length b) room, checks, le-leb 7 (getD b 3 0) h, getD-drop 5 b 7 0)
 
-  pub first-dlc : getD b 4 0 ≤ 8
-  first-dlc = fits-dlc (getD b 3 0) (getD b 4 0) (getD b 12 0) (first-fits b checks)
+  pub single-dlc : getD b 3 0 < 7 → getD b 4 0 ≤ 8
+  single-dlc h = first-dlc (getD b 3 0) (getD b 4 0) (getD b 12 0) (lt-leb 7 (getD b 3 0) h) (first-fits b checks)
+
+  pub series-dlc : 7 ≤ getD b 3 0 → getD b 4 0 ≡ 8
+  series-dlc h = first-count (getD b 3 0) (getD b 4 0) (getD b 12 0) (le-leb 7 (getD b 3 0) h) (first-fits b checks) .0
 
   pub single-counted : getD b 3 0 < 7 → counted (allFrames b) ≡ given (drop 13 b) (getD b 4 0)
   unfolding counted
   single-counted h =
       rw (all-single h)
-      (ap (given (drop 13 b)) (length-take-le (getD b 4 0) (drop 5 b) (rw length-drop (omega (arith, first-dlc)))))
+      (ap (given (drop 13 b)) (length-take-le (getD b 4 0) (drop 5 b) (rw length-drop (omega (arith, single-dlc h)))))
 
 -- So many bytes more in front of a payload that was counted.
 abbrev pub longer : ℕ → Answer (List ℕ) ℕ → Answer (List ℕ) ℕ
@@ -172,6 +160,15 @@ module _ (b i : List ℕ) (n at : ℕ) where
       let h2 = require-passed (typeLegal (getD f 3 0)) 2 _ e in
       let h6 = require-passed (laterFits n (getD f 4 0)) 6 _ (h2 .1) in
       rw (← getD-drop at b 4 0, ← getD-take 13 (drop at b) 4 0 (omega arith)) (later-dlc n (getD f 4 0) (h6 .0))
+
+  -- The same of what the checks told, for the 13 bytes as the code takes them.
+  pub told-passed : (v : Verdict) → verdictTold v ≡ laterChecks i n (take (at + 13 - at) (drop at b)) → v ≡ Passed
+      → (laterChecks i n (take 13 (drop at b)) ≡ passed) × (1 ≤ getD b (at + 4) 0) × (getD b (at + 4) 0 ≤ 8)
+  unfolding verdictTold
+  told-passed v e p =
+      let passes = sym (rw add-sub-cancel-left at e) ∙ ap verdictTold p in
+      let d = passed-dlc passes in
+      (passes, d .0, d .1)
 
   later-counted : 13 ≤ length b - at → laterChecks i n (take 13 (drop at b)) ≡ passed
       → counted (laterFrames i (suc n) (drop at b)) ≡ longer (getD b (at + 4) 0 - 1) (counted (laterFrames i n (drop (at + 13) b)))

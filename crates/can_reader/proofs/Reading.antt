@@ -1,7 +1,8 @@
--- The laws of reading: what the checks of a message come to, and how the payload of its frames fills the output frame by frame.
+-- The laws of reading: what the checks of a message come to, and how the payload of its frames fills the output frame by frame. Carried by
+-- the case of each check, and by induction on the frames still to come.
 use Prim.Native.Nat.{ℕ, zero, suc, _+_, _-_, _≤_, _<_}
 use mathlib.Core.Bool.{Bool, true, false, cond, _&&_, _||_}
-use mathlib.Core.List.{List, [], _∷_, _++_, append-assoc}
+use mathlib.Core.List.{List, [], _++_, append-assoc}
 use mathlib.Core.Path.{_≡_, refl, ap, sym, _∙_}
 use native.Mathlib.Nat.{zero-add}
 use native.Mathlib.Omega.{arith}
@@ -9,18 +10,23 @@ use borrow.Author.Tests.{ne-eqb, eqb-true, leb-true}
 use lib.Dec.{leb, ltb, eqb}
 use lib.ListN.{length, getD, take, drop, length-append, length-drop}
 use lib.Seq.{drop-drop, drop-at, length-take-le, sets, sets-eq}
-use Rattle.message.specs.Answer.{Answer, Check, refused, given, passed, failed, require, after, within, counted, laid, written}
-use Rattle.message.specs.Checks.{idLegal, payloadLegal, errorLegal, fieldChecks, writable, writeChecks}
-use Rattle.message.specs.Kinds.{inside, isAck, isNack, isEvent}
+use Rattle.message.specs.Answer.{Answer, Check, refused, given, number, passed, failed, require, after, within, counted, laid, written, verdictTold}
+use Rattle.message.specs.Checks.{idLegal, payloadLegal, fieldChecks, writeChecks}
+use Rattle.message.specs.Kinds.{inside, isEvent}
 use Rattle.message.specs.declared.Kind.{Kind}
 use Rattle.message.specs.declared.Kind.the-variants.{Telecommand, TelecommandAck, TelecommandNack, TelemetryRequest, TelemetryResponse, TelemetryNack, Event}
 use Rattle.message.specs.declared.Message.{Message}
+use Rattle.message.specs.declared.Refusal.{Refusal}
+use Rattle.message.specs.declared.Verdict.{Verdict}
+use Rattle.message.specs.declared.Verdict.the-variants.{Passed, Refused}
 use Rattle.message.proofs.Checks.{require-passed}
 use Rattle.message.proofs.Answers.{too-short, long-enough, after-passed}
 use Rattle.message.proofs.Stores.{sets-append}
-use Rattle.can.specs.Can.{firstChecks, laterChecks, prepend, laterFrames, allFrames, canMessage, complete, canRead, canCarries, canError, kindOfType, canIdLegal, canFits}
+use Rattle.can.specs.Can.{firstChecks, laterChecks, laterFrames, allFrames, canMessage, complete, canRead, canCarries, canError, kindOfType, canIdLegal, canFits}
+use Rattle.can.proofs.RoundTrip.{can-writable, error-back, empty, complete-back}
+use Rattle.can.proofs.Series.{prepend-given}
 use Rattle.can_frames.specs.Told.{measured}
-use Rattle.can_frames.proofs.Scanning.{payload, counted-given, refused-measured, first-fits, fits-series, all-single, all-series, first-dlc, single-counted, later-passed, passed-dlc}
+use Rattle.can_frames.proofs.Scanning.{payload, counted-given, behind, refused-measured, given-measured, all-single, all-series, single-dlc, series-dlc, single-counted, later-passed, passed-dlc}
 
 -- An event's ID is 255; that of another kind is of the kind's range.
 pub can-id-wrong : (k : Kind) (id : ℕ) → cond (isEvent k) (eqb id 255) true ≡ false → canIdLegal k id ≡ false
@@ -42,28 +48,10 @@ can-id-plain TelemetryNack id e = refl
 can-id-plain Event id e = rw (eqb-true id 255 e)
 
 -- The error that CAN reads for a kind is legal, so of the checks of a message to be written 5 and 6 are left.
-error-legal : (k : Kind) → errorLegal k (canError k) ≡ true
-unfolding errorLegal canError isNack isAck inside
-error-legal Telecommand = refl
-error-legal TelecommandAck = refl
-error-legal TelecommandNack = refl
-error-legal TelemetryRequest = refl
-error-legal TelemetryResponse = refl
-error-legal TelemetryNack = refl
-error-legal Event = refl
-
-all-written : (m : Message) → writable canCarries m ≡ true
-unfolding writable
-all-written m = by (isEvent (m .kind))
-  where
-    by : (b : Bool) → cond b true true ≡ true
-    by true = refl
-    by false = refl
-
 pub written-checks : (m : Message) (n : ℕ) → m .error ≡ canError (m .kind)
     → writeChecks canCarries m n ≡ require (idLegal (m .kind) (m .id)) 5 (require (payloadLegal (m .kind) n) 6 passed)
 unfolding writeChecks fieldChecks require
-written-checks m n e = rw (all-written m, e, error-legal (m .kind))
+written-checks m n e = rw (can-writable m, e, error-back (m .kind))
 
 -- What CAN adds to the checks of the kinds comes behind them.
 checks-failed : (a b x : Bool) (k : ℕ) → require a 5 (require b 6 passed) ≡ failed k → require a 5 (require (b && x) 6 passed) ≡ failed k
@@ -108,6 +96,17 @@ pub frames-refused : (b : List ℕ) (k : ℕ) → measured (allFrames b) ≡ ref
 unfolding canRead complete
 frames-refused b k e = rw (refused-measured (allFrames b) k e)
 
+-- Frames that are given passed the checks of the first.
+frames-first : (b rest p : List ℕ) → allFrames b ≡ given rest p → (13 ≤ length b) × (firstChecks (take 13 b) ≡ passed)
+unfolding allFrames
+frames-first b rest p e =
+    let h = after-passed (require (leb 13 (length b)) 1 (firstChecks (take 13 b))) _ rest p e in
+    let h1 = require-passed (leb 13 (length b)) 1 (firstChecks (take 13 b)) (h .0) in
+    (leb-true 13 (length b) (h1 .0), h1 .1)
+
+pub counted-first : (b rest : List ℕ) (n : ℕ) → counted (allFrames b) ≡ given rest n → (13 ≤ length b) × (firstChecks (take 13 b) ≡ passed)
+counted-first b rest n e = frames-first b rest (payload (allFrames b)) (counted-given (allFrames b) rest n e .0)
+
 -- Frames that passed their checks, with a payload of n bytes: what is left are the checks of the message.
 abbrev MessageChecks : List ℕ → ℕ → Check
 MessageChecks b n = require (canIdLegal (kindOfType (getD b 3 0)) (getD b 2 0)) 5 (require (canFits (getD b 3 0) n) 6 passed)
@@ -120,57 +119,39 @@ complete-checked : (b r p : List ℕ) → length r ≡ 0 → complete b (given r
 unfolding complete
 complete-checked b r p h = rw h (no-more (MessageChecks b (length p)) (given (canMessage b) p))
 
-module _ (b rest : List ℕ) (n : ℕ) (frames : counted (allFrames b) ≡ given rest n) where
-  pub whole-trailing : 0 < length rest → canRead b ≡ refused 4
+-- The same as the scan tells it: so many bytes are left, and the payload has n.
+module _ (b : List ℕ) (left n : ℕ) (frames : measured (allFrames b) ≡ given left n) where
+  scanned : (counted (allFrames b) ≡ given (behind (allFrames b)) n) × (length (behind (allFrames b)) ≡ left)
+  scanned = given-measured (allFrames b) left n frames
+
+  pub whole-long : 13 ≤ length b
+  whole-long = counted-first b (behind (allFrames b)) n (scanned .0) .0
+
+  pub whole-trailing : 0 < left → canRead b ≡ refused 4
   unfolding canRead complete require after
-  whole-trailing h = rw (counted-given (allFrames b) rest n frames .0, ne-eqb (length rest) 0 (λ z. omega (arith, z)))
+  whole-trailing h = rw (counted-given (allFrames b) _ n (scanned .0) .0, ne-eqb (length (behind (allFrames b))) 0 (λ z. omega (arith, z, scanned .1)))
 
-  whole-checked : length rest ≡ 0 → canRead b ≡ after (MessageChecks b n) (given (canMessage b) (payload (allFrames b)))
-  unfolding canRead
-  whole-checked h =
-      let g = counted-given (allFrames b) rest n frames in
-      ap (complete b) (g .0) ∙ complete-checked b rest (payload (allFrames b)) h ∙ rw (g .1)
+  -- With nothing left, the verdict on the message that the first frame tells decides.
+  module _ (none : left ≤ 0) (m : Message) (first : m ≡ canMessage b) (v : Verdict) (told : verdictTold v ≡ require (canIdLegal (kindOfType (getD b 3 0)) (m .id)) 5 (require (canFits (getD b 3 0) n) 6 passed)) where
+    whole-checked : canRead b ≡ after (verdictTold v) (given m (payload (allFrames b)))
+    unfolding canRead canMessage
+    whole-checked =
+        let g = counted-given (allFrames b) _ n (scanned .0) in
+        ap (complete b) (g .0) ∙ complete-checked b _ (payload (allFrames b)) (omega (arith, scanned .1)) ∙ rw (g .1, told, first)
 
-  pub whole-failed : (k : ℕ) → length rest ≡ 0 → MessageChecks b n ≡ failed k → canRead b ≡ refused k
-  unfolding after
-  whole-failed k h e = whole-checked h ∙ rw e
+    pub whole-refused : (r : Refusal) → v ≡ Refused r → canRead b ≡ refused (number r)
+    unfolding after verdictTold
+    whole-refused r e = whole-checked ∙ rw e
 
-  pub whole-passed : length rest ≡ 0 → MessageChecks b n ≡ passed → counted (canRead b) ≡ given (canMessage b) n
-  unfolding after counted
-  whole-passed h e =
-      let all : canRead b ≡ given (canMessage b) (payload (allFrames b)) = whole-checked h ∙ rw e in
-      ap counted all ∙ ap (given (canMessage b)) (counted-given (allFrames b) rest n frames .1)
-
--- Frames that are given passed the checks of the first.
-pub frames-first : (b rest p : List ℕ) → allFrames b ≡ given rest p → (13 ≤ length b) × (firstChecks (take 13 b) ≡ passed)
-unfolding allFrames
-frames-first b rest p e =
-    let h = after-passed (require (leb 13 (length b)) 1 (firstChecks (take 13 b))) _ rest p e in
-    let h1 = require-passed (leb 13 (length b)) 1 (firstChecks (take 13 b)) (h .0) in
-    (leb-true 13 (length b) (h1 .0), h1 .1)
-
-pub counted-first : (b rest : List ℕ) (n : ℕ) → counted (allFrames b) ≡ given rest n → (13 ≤ length b) × (firstChecks (take 13 b) ≡ passed)
-counted-first b rest n e = frames-first b rest (payload (allFrames b)) (counted-given (allFrames b) rest n e .0)
-
-empty : (l : List ℕ) → length l ≡ 0 → l ≡ []
-empty [] h = refl
-empty (a ∷ l) h = absurd (omega arith)
+    pub whole-given : v ≡ Passed → counted (canRead b) ≡ given m n
+    unfolding after verdictTold counted
+    whole-given e = rw (whole-checked, e) (ap (given m) (counted-given (allFrames b) _ n (scanned .0) .1))
 
 -- A message that was read is that of its frames, all of the input.
-complete-given : (b : List ℕ) (x : Answer (List ℕ) (List ℕ)) (m : Message) (p : List ℕ) → complete b x ≡ given m p → x ≡ given [] p
-unfolding complete
-complete-given b (refused k) m p e = absurd (let z : _≡_ {A = ℕ} 0 1 = cc in omega arith)
-complete-given b (given r q) m p e =
-    let h = after-passed (require (eqb (length r) 0) 4 (MessageChecks b (length q))) (given (canMessage b) q) m p e in
-    let h4 = require-passed (eqb (length r) 0) 4 (MessageChecks b (length q)) (h .0) in
-    let none : r ≡ [] = empty r (eqb-true (length r) 0 (h4 .0)) in
-    let same : q ≡ p = cc (h .1) in
-    rw (none, same)
-
 module _ (b : List ℕ) (m : Message) (n : ℕ) (told : counted (canRead b) ≡ given m n) where
   all-given : allFrames b ≡ given [] (payload (canRead b))
   unfolding canRead
-  all-given = complete-given b (allFrames b) m (payload (canRead b)) (counted-given (canRead b) m n told .0)
+  all-given = complete-back b (allFrames b) m (payload (canRead b)) (counted-given (canRead b) m n told .0) .0
 
   pub read-frames : counted (allFrames b) ≡ given [] n
   unfolding counted
@@ -185,7 +166,7 @@ module _ (b : List ℕ) (m : Message) (n : ℕ) (told : counted (canRead b) ≡ 
   read-single h =
       let f = counted-first b [] n read-frames in
       let size : getD b 4 0 ≡ n = cc (single-counted b (f .0) (f .1) h, read-frames) in
-      let d = first-dlc b (f .0) (f .1) in
+      let d = single-dlc b (f .0) (f .1) h in
       let long : length (take n (drop 5 b)) ≡ n = length-take-le n (drop 5 b) (rw length-drop (omega (arith, d, size, f .0))) in
       (omega (arith, d, size, f .0), λ out. read-laid out ∙ ap (λ (x : Answer (List ℕ) (List ℕ)). laid x out) (all-single b (f .0) (f .1) h) ∙ rw (size, long))
 
@@ -213,11 +194,6 @@ run-more b n at q room low high run =
     let same : drop (getD b (at + 4) 0 - 1) (d ++ q) ≡ q = drop-at d q (getD b (at + 4) 0 - 1) size in
     (room, low, high, ap (λ (x : List ℕ). d ++ x) same, rw same run)
 
-prepend-given : (d : List ℕ) (x : Answer (List ℕ) (List ℕ)) (r p : List ℕ) → prepend d x ≡ given r p → (x ≡ given r (payload x)) × (d ++ payload x ≡ p)
-unfolding prepend
-prepend-given d (refused k) r p e = absurd (let z : _≡_ {A = ℕ} 0 1 = cc in omega arith)
-prepend-given d (given s q) r p e = (cc, cc)
-
 later-run : (b i : List ℕ) (n at : ℕ) (r p : List ℕ) → laterFrames i n (drop at b) ≡ given r p → Run b n at p
 unfolding Run laterFrames
 later-run b i zero at r p e = cc
@@ -227,15 +203,15 @@ later-run b i (suc n) at r p e =
     let room : 13 ≤ length b - at = rw length-drop at (leb-true 13 (length (drop at b)) (h1 .0)) in
     let d = passed-dlc b i n at (h1 .1) in
     let g = prepend-given _ _ r p (sym (later-passed b i n at room (h1 .1)) ∙ e) in
-    rw (← g .1) (run-more b n at (payload (laterFrames i n (drop (at + 13) b))) (omega (arith, room)) (d .0) (d .1) (later-run b i n (at + 13) r _ (g .0)))
+    rw (← g .2) (run-more b n at (g .0) (omega (arith, room)) (d .0) (d .1) (later-run b i n (at + 13) r (g .0) (g .1)))
 
 pub series-run : (b r p : List ℕ) → allFrames b ≡ given r p → 7 ≤ getD b 3 0 → Run b (suc (getD b 12 0)) 0 p
 series-run b r p e h =
     let f = frames-first b r p e in
-    let dlc : getD b 4 0 ≡ 8 = fits-series (getD b 3 0) (getD b 4 0) (getD b 12 0) h (first-fits b (f .1)) in
+    let dlc : getD b 4 0 ≡ 8 = series-dlc b (f .0) (f .1) h in
     let g = prepend-given (take 7 (drop 5 b)) _ r p (sym (all-series b (f .0) (f .1) h) ∙ e) in
-    let m = run-more b (getD b 12 0) 0 (payload (laterFrames (take 4 b) (getD b 12 0) (drop 13 b))) (f .0) (omega (arith, dlc)) (omega (arith, dlc)) (later-run b (take 4 b) (getD b 12 0) 13 r _ (g .0)) in
-    rw (← g .1) (rw dlc at m)
+    let m = run-more b (getD b 12 0) 0 (g .0) (f .0) (omega (arith, dlc)) (omega (arith, dlc)) (later-run b (take 4 b) (getD b 12 0) 13 r (g .0) (g .1)) in
+    rw (← g .2) (rw dlc at m)
 
 -- What `lay` leaves of an output behind the first bytes are stores from there on.
 pub lay-sets : (d out part : List ℕ) (to : ℕ) → to + length d ≤ length out → part ≡ laid (within (drop to out) (written d)) (drop to out) → take to out ++ part ≡ sets out to d

@@ -81,6 +81,7 @@ pub(crate) fn message_checks(t: u8, message: Message, length: usize) -> Verdict
         events: true,
         untold: true,
     };
+    // Of the checks for writing, 9 and 7 cannot come here: CAN carries every kind, and the error that it reads is legal.
     match checks::check_written(carries, message, length) {
         Verdict::Refused(refusal) => Verdict::Refused(refusal),
         Verdict::Passed => {

@@ -1,4 +1,4 @@
--- How frames are stored: a run of stores lays one part behind another.
+-- How frames are stored. Carried by the law of runs of stores: a run behind another is one run of both parts.
 use Prim.Native.Nat.{ℕ, zero, suc, _+_, _-_, _*_, _≤_, _<_}
 use mathlib.Core.List.{List, [], _∷_, _++_, append-assoc}
 use mathlib.Core.Path.{_≡_, refl, _∙_, sym, ap}

@@ -1,7 +1,8 @@
--- The laws of digits: when a byte lies in a range, and what the byte at place i makes of the digits from there on.
+-- The laws of digits: when a byte lies in a range, and what the byte at place i makes of the digits from there on. Carried by the tests of
+-- the range's ends, at which the definitions compute.
 use Prim.Native.Nat.{ℕ, zero, suc, _+_, _≤_, _<_}
 use mathlib.Core.Path.{_≡_, refl}
-use mathlib.Core.Bool.{Bool, true, false, _&&_, cond}
+use mathlib.Core.Bool.{Bool, true, false, _&&_, cond, and-false}
 use mathlib.Core.List.{List, [], _∷_}
 use native.Mathlib.Numerals.{add-one}
 use native.Mathlib.Omega.{arith}
@@ -10,10 +11,6 @@ use lib.Dec.{leb, ltb}
 use lib.ListN.{length, getD, drop}
 use lib.Seq.{drop-cons}
 use Rattle.digits.specs.Digits.{inside, digitValue, isDigit, allDigits, digitOf}
-
-pub and-false : (t : Bool) → t && false ≡ false
-and-false true = refl
-and-false false = refl
 
 pub and-left : (t u : Bool) → t && u ≡ true → t ≡ true
 and-left true u e = refl

@@ -1,13 +1,14 @@
--- The laws of reading a number: what the byte at place i makes of the answer from there on.
+-- The laws of reading a number: what the byte at place i makes of the answer from there on. Carried by the test of that byte, and for a
+-- number beyond the limit by induction on the digits, which never make it smaller.
 use Prim.Native.Nat.{ℕ, _+_, _*_, _≤_, _<_}
 use mathlib.Core.Path.{_≡_}
+use mathlib.Core.Bool.{and-false}
 use mathlib.Core.List.{List, [], _∷_}
 use native.Mathlib.Numerals.{add-one}
 use native.Mathlib.Omega.{arith}
 use borrow.Author.Tests.{le-leb, lt-leb, lt-ltb, le-ltb}
 use lib.ListN.{length, getD, drop, drop-of-length-le}
 use lib.Seq.{drop-cons}
-use Rattle.digits.proofs.DigitLaws.{and-false}
 use Rattle.digits.specs.Digits.{digitValue, isDigit, allDigits}
 use Rattle.digits.specs.Numbers.{valueFrom, numberFrom}
 use Rattle.digits.specs.declared.NumberAnswer.the-variants.{Value, Bad}

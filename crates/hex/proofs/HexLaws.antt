@@ -1,4 +1,5 @@
--- The laws of byte strings: when an output takes them, and what one turn of storing leaves to be stored.
+-- The laws of byte strings: when an output takes them, and what one turn of storing leaves to be stored. Carried by the definitions, which
+-- compute once a byte or two digits stand in front; the lengths by induction.
 use Prim.Native.Nat.{ℕ, suc, _+_, _*_, _/_, _%_, _≤_, _<_}
 use mathlib.Core.Path.{_≡_, refl}
 use mathlib.Core.Bool.{true, false, not, _&&_}

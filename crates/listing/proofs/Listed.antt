@@ -1,35 +1,32 @@
 -- What a line says is what the reader says of that frame alone: a complete frame is found whole, whatever follows it, since a doubled body
 -- scans to its own tail.
-use Prim.Native.Nat.{ℕ, suc, _+_, _≤_}
-use mathlib.Core.Bool.{Bool, true, false}
+use Prim.Native.Nat.{ℕ, _+_, _≤_}
+use mathlib.Core.Bool.{false}
 use mathlib.Core.List.{List, [], _∷_, _++_, append-assoc, append-nil}
 use mathlib.Core.Path.{_≡_, refl, ap, _∙_}
-use native.Mathlib.Nat.{zero-add}
 use native.Mathlib.Omega.{arith}
-use borrow.Author.Tests.{le-leb, eqb-true}
 use lib.Dec.{eqb}
 use lib.ListN.{length, take, drop, length-append}
 use lib.Seq.{take-append-seam, drop-append-seam}
 use Rattle.message.proofs.Answers.{after-given, after-passed}
 use Rattle.message.proofs.Checks.{require-passed}
-use Rattle.message.specs.Answer.{refused, given, counted, passed, require, after, written}
+use Rattle.message.specs.Answer.{refused, given, counted, passed, require, written}
 use Rattle.message.specs.Body.{bodyBytes}
 use Rattle.message.specs.Checks.{writable, writeChecks}
 use Rattle.message.specs.Kinds.{carriedOn}
 use Rattle.message.specs.declared.Message.{Message}
-use Rattle.stuffing.proofs.Scans.{scan-plain, scan-doubled}
+use Rattle.stuffing.proofs.Scans.{scan-doubled}
 use Rattle.stuffing.specs.Stuffing.{doubled, Scan, stopped, scan, escaped, frameScan}
 use Rattle.stuffing.specs.declared.Stop.the-variants.{Ended, Broken, Cut}
-use Rattle.stuffing.specs.declared.Stop.{Stop}
 use Rattle.serial.proofs.RoundTrip.{written-reads}
 use Rattle.serial.proofs.Tables.{row-of-start, written-row}
-use Rattle.serial.specs.Frames.{startByte, startRow, rowOf, sourceLegal, closed, started, frameRead, carries, headFields, frameBytes, frameWrite}
+use Rattle.serial.specs.Frames.{startByte, startRow, rowOf, sourceLegal, frameRead, carries, headFields, frameBytes, frameWrite}
 use Rattle.serial.specs.declared.Row.{Row}
 use Rattle.serial.specs.declared.SerialLink.the-variants.{Uart}
 use Rattle.serial.specs.declared.StartRow.the-variants.{Known, Unknown}
 use Rattle.listing.specs.Lines.{line, lineText}
 use Rattle.listing.specs.Listing.{frameLength, said, frameLine, lines}
-use Rattle.listing.proofs.Walks.{lines-pair, lines-end, lines-frame}
+use Rattle.listing.proofs.Walks.{lines-pair, lines-end, lines-frame, stops}
 
 -- A complete frame: ESC, a start byte, a body with every ESC doubled, and the tail.
 abbrev pub complete : ℕ → List ℕ → List ℕ
@@ -68,31 +65,6 @@ written-listed m p b behind n at e h =
     let body = headFields Uart r m ++ bodyBytes m p in
     rw (← read, ← v .2) (complete-listed (startByte Uart r) r (row-of-start Uart r has) body behind n at (rw (← v .2) at h))
 
--- A scan over a doubled body comes to what stands behind it.
-scan-behind : (d t : List ℕ) → scan (doubled d ++ t) ≡ record { stop = scan t .stop; passed = length (doubled d) + scan t .passed; body = d ++ scan t .body }
-unfolding doubled scan escaped
-scan-behind [] t = rw zero-add
-scan-behind (b ∷ d) t = by (scan-behind d t) (eqb b 0x1F) refl
-  where
-    by : scan (doubled d ++ t) ≡ record { stop = scan t .stop; passed = length (doubled d) + scan t .passed; body = d ++ scan t .body } → (u : Bool) → eqb b 0x1F ≡ u
-        → scan (doubled (b ∷ d) ++ t) ≡ record { stop = scan t .stop; passed = length (doubled (b ∷ d)) + scan t .passed; body = b ∷ (d ++ scan t .body) }
-    by again true q =
-        let e : 2 + (length (doubled d) + scan t .passed) ≡ suc (suc (length (doubled d))) + scan t .passed = omega arith in
-        rw (q, again, e, eqb-true b 0x1F q)
-    by again false q =
-        let e : 1 + (length (doubled d) + scan t .passed) ≡ suc (length (doubled d)) + scan t .passed = omega arith in
-        rw (q, scan-plain b (doubled d ++ t) q, again, e)
-
--- A frame that does not come to its tail: what stands behind its body stops the scan at once.
-module _ (start : ℕ) (row : Row) (known : startRow Uart start ≡ Known row) (body t : List ℕ) (n at : ℕ) where
-  stops : (how : Stop) → scan t ≡ stopped how 0 → length (0x1F ∷ start ∷ (doubled body ++ t)) ≤ n
-      → lines n at (0x1F ∷ start ∷ (doubled body ++ t)) ≡ lineText (line at (counted (said how (0x1F ∷ start ∷ (doubled body ++ t))))) ++ lines n (at + (2 + length (doubled body))) t
-  unfolding frameLine
-  stops how e h =
-      let far : 2 + (length (doubled body) + 0) ≡ 2 + length (doubled body) = omega arith in
-      let next : 2 + length (doubled body) ≡ suc (suc (length (doubled body))) = omega arith in
-      lines-frame at (0x1F ∷ start ∷ (doubled body ++ t)) start _ row refl known n h ∙ rw (scan-behind body t, e, far, next, drop-append-seam)
-
 -- "An ESC and start byte break the frame off (3) and begin a new one there; ESC with another wrong byte gives 3 and the hunt goes on after
 -- the pair."
 module _ (start : ℕ) (row : Row) (known : startRow Uart start ≡ Known row) (body : List ℕ) (x : ℕ) (behind : List ℕ) (n at : ℕ) where
@@ -126,19 +98,3 @@ module _ (start : ℕ) (row : Row) (known : startRow Uart start ≡ Known row) (
   pub unfinished-esc : length (0x1F ∷ start ∷ (doubled body ++ (0x1F ∷ []))) ≤ n → lines n at (0x1F ∷ start ∷ (doubled body ++ (0x1F ∷ []))) ≡ lineText (line at (refused 1))
   unfolding scan
   unfinished-esc = unfinished (0x1F ∷ []) refl (omega arith)
-
--- Of a frame that is broken off or unfinished, the line says what the reader says of all that is left.
-pub unfinished-read : (start : ℕ) (row : Row) (s : List ℕ) → startRow Uart start ≡ Known row → (scan s .stop ≡ Ended → ⊥) → said (scan s .stop) (0x1F ∷ start ∷ s) ≡ frameRead Uart (0x1F ∷ start ∷ s)
-unfolding said frameRead started closed require after
-unfinished-read start row s known unended = by (scan s .stop) refl
-  where
-    one : 1 ≤ length (0x1F ∷ start ∷ s)
-    one = omega arith
-
-    two : 2 ≤ length (0x1F ∷ start ∷ s)
-    two = omega arith
-
-    by : (stop : Stop) → scan s .stop ≡ stop → said (scan s .stop) (0x1F ∷ start ∷ s) ≡ frameRead Uart (0x1F ∷ start ∷ s)
-    by Ended e = absurd (unended e)
-    by Broken e = rw (le-leb _ _ one, le-leb _ _ two, known, e)
-    by Cut e = rw (le-leb _ _ one, le-leb _ _ two, known, e)

@@ -1,21 +1,46 @@
--- The laws of the walk: what a hunt finds, that as many turns as there are bytes are enough, and one step of the walk at a place of the
--- bytes.
+-- The laws of the walk: what a hunt finds, that as many turns as there are bytes are enough, where a frame without a tail is left, and one
+-- step of the walk at a place of the bytes. Carried by the definitions, which compute at one step, and by induction on turns and bytes.
 use Prim.Native.Nat.{ℕ, zero, suc, _+_, _≤_, _<_}
 use mathlib.Core.Bool.{Bool, true, false}
 use mathlib.Core.List.{List, [], _∷_, _++_}
 use mathlib.Core.Path.{_≡_, refl, ap, _∙_}
+use native.Mathlib.Nat.{zero-add}
 use native.Mathlib.Numerals.{add-one}
 use native.Mathlib.Omega.{arith}
-use borrow.Author.Tests.{ne-eqb}
+use borrow.Author.Tests.{eqb-true, ne-eqb}
 use lib.Dec.{eqb}
 use lib.ListN.{length, getD, drop, length-drop}
-use lib.Seq.{drop-cons, drop-drop}
+use lib.Seq.{drop-cons, drop-drop, drop-append-seam}
+use Rattle.message.specs.Answer.{counted}
+use Rattle.stuffing.proofs.Scans.{scan-plain}
+use Rattle.stuffing.specs.Stuffing.{doubled, stopped, scan, escaped}
+use Rattle.stuffing.specs.declared.Stop.{Stop}
 use Rattle.serial.specs.Frames.{startRow}
 use Rattle.serial.specs.declared.Row.{Row}
 use Rattle.serial.specs.declared.SerialLink.the-variants.{Uart}
 use Rattle.serial.specs.declared.StartRow.the-variants.{Known, Unknown}
 use Rattle.serial.specs.declared.StartRow.{StartRow}
-use Rattle.listing.specs.Listing.{Found, nothing, frame, pair, hunt, frameLength, frameLine, framed, lines}
+use Rattle.listing.specs.Lines.{line, lineText}
+use Rattle.listing.specs.Listing.{Found, nothing, frame, pair, hunt, frameLength, said, frameLine, framed, lines}
+
+-- The steps of the walk outside a frame: over a byte, over ESC with a byte that is no start byte, and the end.
+module _ (at : ℕ) where
+  lines-byte : (n b x : ℕ) (s : List ℕ) → eqb b 0x1F ≡ false → lines n at (b ∷ x ∷ s) ≡ lines n (at + 1) (x ∷ s)
+  unfolding lines hunt
+  lines-byte zero b x s q = refl
+  lines-byte (suc n) b x s q = rw q
+
+  pub lines-pair : (n x : ℕ) (s : List ℕ) → startRow Uart x ≡ Unknown → lines n at (0x1F ∷ x ∷ s) ≡ lines n (at + 2) s
+  unfolding lines hunt pair
+  lines-pair zero x s q = refl
+  lines-pair (suc n) x s q = rw q
+
+  pub lines-end : (n : ℕ) (s : List ℕ) → length s ≤ 1 → lines n at s ≡ []
+  unfolding lines framed hunt
+  lines-end zero s h = refl
+  lines-end (suc n) [] h = refl
+  lines-end (suc n) (b ∷ []) h = refl
+  lines-end (suc n) (b ∷ x ∷ s) h = absurd (omega arith)
 
 -- A frame that a hunt finds is what is left from a later offset on, and has its ESC and its start byte.
 abbrev pub Within : ℕ → List ℕ → Found → Type 0
@@ -55,25 +80,8 @@ lines-enough (suc n) (suc m) at s h k = by (lines-enough n m) (hunt at s) (hunt-
         let size = length-drop (frameLength f) f in
         ap (λ (l : List ℕ). frameLine start f ++ l) (again (start + frameLength f) rest (omega (arith, w .0, w .1)) (omega (arith, w .0, w .1)))
 
--- The steps of the walk: over a byte, over ESC with a byte that is no start byte, and over a frame.
+-- The step of the walk over a frame.
 module _ (at : ℕ) where
-  lines-byte : (n b x : ℕ) (s : List ℕ) → eqb b 0x1F ≡ false → lines n at (b ∷ x ∷ s) ≡ lines n (at + 1) (x ∷ s)
-  unfolding lines hunt
-  lines-byte zero b x s q = refl
-  lines-byte (suc n) b x s q = rw q
-
-  pub lines-pair : (n x : ℕ) (s : List ℕ) → startRow Uart x ≡ Unknown → lines n at (0x1F ∷ x ∷ s) ≡ lines n (at + 2) s
-  unfolding lines hunt pair
-  lines-pair zero x s q = refl
-  lines-pair (suc n) x s q = rw q
-
-  pub lines-end : (n : ℕ) (s : List ℕ) → length s ≤ 1 → lines n at s ≡ []
-  unfolding lines framed hunt
-  lines-end zero s h = refl
-  lines-end (suc n) [] h = refl
-  lines-end (suc n) (b ∷ []) h = refl
-  lines-end (suc n) (b ∷ x ∷ s) h = absurd (omega arith)
-
   module _ (f : List ℕ) (x : ℕ) (s : List ℕ) (row : Row) (begins : f ≡ 0x1F ∷ x ∷ s) (known : startRow Uart x ≡ Known row) where
     hunt-frame : hunt at f ≡ frame at f
     unfolding hunt pair
@@ -86,6 +94,31 @@ module _ (at : ℕ) where
         let rest = drop (frameLength f) f in
         let size : length rest ≤ n = rw length-drop (omega arith) in
         rw hunt-frame (ap (λ (l : List ℕ). frameLine at f ++ l) (lines-enough n (suc n) (at + frameLength f) rest size (omega arith)))
+
+-- A scan over a doubled body comes to what stands behind it.
+scan-behind : (d t : List ℕ) → scan (doubled d ++ t) ≡ record { stop = scan t .stop; passed = length (doubled d) + scan t .passed; body = d ++ scan t .body }
+unfolding doubled scan escaped
+scan-behind [] t = rw zero-add
+scan-behind (b ∷ d) t = by (scan-behind d t) (eqb b 0x1F) refl
+  where
+    by : scan (doubled d ++ t) ≡ record { stop = scan t .stop; passed = length (doubled d) + scan t .passed; body = d ++ scan t .body } → (u : Bool) → eqb b 0x1F ≡ u
+        → scan (doubled (b ∷ d) ++ t) ≡ record { stop = scan t .stop; passed = length (doubled (b ∷ d)) + scan t .passed; body = b ∷ (d ++ scan t .body) }
+    by again true q =
+        let e : 2 + (length (doubled d) + scan t .passed) ≡ suc (suc (length (doubled d))) + scan t .passed = omega arith in
+        rw (q, again, e, eqb-true b 0x1F q)
+    by again false q =
+        let e : 1 + (length (doubled d) + scan t .passed) ≡ suc (length (doubled d)) + scan t .passed = omega arith in
+        rw (q, scan-plain b (doubled d ++ t) q, again, e)
+
+-- A frame that does not come to its tail: what stands behind its body stops the scan at once.
+module _ (start : ℕ) (row : Row) (known : startRow Uart start ≡ Known row) (body t : List ℕ) (n at : ℕ) where
+  pub stops : (how : Stop) → scan t ≡ stopped how 0 → length (0x1F ∷ start ∷ (doubled body ++ t)) ≤ n
+      → lines n at (0x1F ∷ start ∷ (doubled body ++ t)) ≡ lineText (line at (counted (said how (0x1F ∷ start ∷ (doubled body ++ t))))) ++ lines n (at + (2 + length (doubled body))) t
+  unfolding frameLine
+  stops how e h =
+      let size : frameLength (0x1F ∷ start ∷ (doubled body ++ t)) ≡ 2 + length (doubled body) = rw (scan-behind body t, e) (omega arith) in
+      let next : 2 + length (doubled body) ≡ suc (suc (length (doubled body))) = omega arith in
+      lines-frame at (0x1F ∷ start ∷ (doubled body ++ t)) start _ row refl known n h ∙ rw (size, scan-behind body t, e, next, drop-append-seam)
 
 -- The same at a place of the bytes `b`.
 module _ (b : List ℕ) (at n : ℕ) where

@@ -61,6 +61,7 @@ line at (given m n) =
 unfoldable pub spaced : List ℕ → List ℕ
 spaced f = text " " ++ f
 
+-- "Fields": the line as text, one space between two fields, and LF at the end.
 unfoldable pub lineText : Line → List ℕ
 lineText l =
     decimal (l .at) ++ spaced (nameText (l .name)) ++ spaced (fieldText (l .id)) ++ spaced (fieldText (l .length)) ++ spaced (fieldText (l .code)) ++ text "\n"

@@ -12,19 +12,19 @@ use Rattle.can.specs.Can as can·Can
 use Rattle.link.specs.Link as link·Link
 use Rattle.file.specs.File as file·File
 use Rattle.checksum.specs.Checksum as checksum·Checksum
-use Rattle.device_rules.specs.Device as device_state·Device
-use Rattle.device_rules.specs.Faults as faults·Faults
-use Rattle.device_rules.specs.Commands as commands·Commands
-use Rattle.device_rules.specs.Work as work_step·Work
-use Rattle.device_rules.specs.Receive as device·Receive
-use Rattle.device_rules.specs.Answers as device·Answers
+use Rattle.device_rules.specs.Device as device_rules·Device
+use Rattle.device_rules.specs.Faults as device_rules·Faults
+use Rattle.device_rules.specs.Commands as device_rules·Commands
+use Rattle.device_rules.specs.Work as device_rules·Work
+use Rattle.device_rules.specs.Receive as device_rules·Receive
+use Rattle.device_rules.specs.Answers as device_rules·Answers
 use Rattle.upload.specs.Sender as upload·Sender
 use Rattle.upload.specs.Round as upload·Round
 use Rattle.upload.specs.World as upload·World
 use Rattle.upload.specs.Schedule as upload·Schedule
 use Rattle.link.specs.declared.Link.{Link}
 use Rattle.link.specs.declared.Link.the-variants.{Uart, Rs485, Can, Csp}
-use Rattle.marked.specs.Cases.{opened, afterRounds, askedAgain, NothingLost, AnswerLost, cases, AllHold}
+use Rattle.marked.specs.Cases.{setupBytes, opened, afterRounds, askedAgain, NothingLost, AnswerLost, cases, AllHold}
 
 on-every : (P : Link → Type 0) → P Uart → P Rs485 → P Can → P Csp → (l : Link) → P l
 on-every P uart rs485 can csp Uart = uart
@@ -33,7 +33,7 @@ on-every P uart rs485 can csp Can = can
 on-every P uart rs485 can csp Csp = csp
 
 pub marked : AllHold cases
-unfolding opened afterRounds askedAgain little_endian·LittleEndian.fromBytes little_endian·LittleEndian.toBytes message·Answer.require message·Answer.after message·Answer.within message·Answer.counted message·Answer.laid message·Answer.verdictTold message·Answer.readTold message·Answer.writeTold message·Kinds.inside message·Kinds.typeKind message·Kinds.isAck message·Kinds.isNack message·Kinds.isEvent message·Kinds.errorCarried message·Kinds.indexCarried message·Kinds.carriedOn message·Checks.idLegal message·Checks.payloadLegal message·Checks.errorLegal message·Checks.fieldChecks message·Checks.told message·Checks.writable message·Checks.writeChecks message·Checks.bodyFits message·Checks.bodyChecks message·Body.errorBytes message·Body.bodyBytes message·Body.bodyMessage message·Body.bodyRead csp·Csp.cspTyped csp·Csp.cspRead csp·Csp.cspHead csp·Csp.cspWrite stuffing·Stuffing.doubled stuffing·Stuffing.escaped stuffing·Stuffing.scan serial·Frames.startRow serial·Frames.byId serial·Frames.kindOf serial·Frames.idField serial·Frames.addressField serial·Frames.sourceLegal serial·Frames.sourced serial·Frames.identified serial·Frames.frameBody serial·Frames.closed serial·Frames.started serial·Frames.frameRead serial·Frames.headFields serial·Frames.frameBytes serial·Frames.frameWrite can·Can.kindOfType can·Can.identifier can·Can.frame can·Can.inSeries can·Can.series can·Can.framesBehind can·Can.canBytes can·Can.canWrite can·Can.typeLegal can·Can.zeros can·Can.firstFits can·Can.firstChecks can·Can.laterFits can·Can.sameBytes can·Can.laterChecks can·Can.prepend can·Can.laterFrames can·Can.allFrames can·Can.canError can·Can.canMessage can·Can.canIdLegal can·Can.canFits can·Can.complete can·Can.canRead link·Link.linkRead link·Link.linkWrite link·Link.linkCarried file·File.sizeLegal file·File.frameCount file·File.fileFrame checksum·Checksum.sum checksum·Checksum.checksum device_state·Device.frame device_state·Device.newDevice device_state·Device.make faults·Faults.fault faults·Faults.setupFault faults·Faults.bufferFault faults·Faults.numberFault faults·Faults.takeFault faults·Faults.frameFault faults·Faults.cancelFault faults·Faults.commandFault commands·Commands.setupDone commands·Commands.takeDone commands·Commands.frameDone commands·Commands.cancelDone commands·Commands.commandDone commands·Commands.afterCommand device·Receive.isTaken device·Receive.answerSource device·Receive.answerTo device·Receive.infoBytes device·Receive.answered device·Receive.commandAnswer device·Receive.commandReply device·Receive.telemetryReply device·Receive.kindReply device·Receive.messageReply device·Receive.receive work_step·Work.frameStored work_step·Work.hasRoom work_step·Work.work work_step·Work.storeAfter work_step·Work.worked upload·Sender.newSender upload·Sender.addressesLegal upload·Sender.checked upload·Sender.start upload·Sender.startTold upload·Sender.requestPayload upload·Sender.requestMessage upload·Sender.asked upload·Sender.sameFile upload·Sender.request upload·Sender.requestTold upload·Sender.framesKnown upload·Round.fits upload·Round.takenError upload·Round.compared upload·Round.confirmed upload·Round.informed upload·Round.ackMeaning upload·Round.nackMeaning upload·Round.infoMeaning upload·Round.kindMeaning upload·Round.meaning upload·Round.waited upload·Round.hasNext upload·Round.advanced upload·Round.roundOver upload·Round.hear upload·Round.hearTold upload·World.lent upload·World.kept work_step·Work.afterWork device·Answers.afterReceive upload·World.bytesOr upload·World.senderOr upload·World.does upload·World.run upload·World.isRefusal upload·World.isRefused upload·Schedule.isGood upload·Schedule.goods upload·Schedule.exchange upload·Schedule.requested upload·Schedule.roundCalls upload·Schedule.scheduled
+unfolding setupBytes opened afterRounds askedAgain little_endian·LittleEndian.fromBytes little_endian·LittleEndian.toBytes message·Answer.require message·Answer.after message·Answer.within message·Answer.counted message·Answer.laid message·Answer.verdictTold message·Answer.readTold message·Answer.writeTold message·Kinds.inside message·Kinds.typeKind message·Kinds.isAck message·Kinds.isNack message·Kinds.isEvent message·Checks.idLegal message·Checks.payloadLegal message·Checks.errorLegal message·Checks.fieldChecks message·Checks.told message·Checks.writable message·Checks.writeChecks message·Checks.bodyFits message·Checks.bodyChecks message·Body.errorBytes message·Body.bodyBytes message·Body.bodyMessage message·Body.bodyRead csp·Csp.cspTyped csp·Csp.cspRead csp·Csp.cspHead csp·Csp.cspWrite stuffing·Stuffing.doubled stuffing·Stuffing.escaped stuffing·Stuffing.scan serial·Frames.startRow serial·Frames.byId serial·Frames.kindOf serial·Frames.idField serial·Frames.addressField serial·Frames.sourceLegal serial·Frames.sourced serial·Frames.identified serial·Frames.frameBody serial·Frames.closed serial·Frames.started serial·Frames.frameRead serial·Frames.headFields serial·Frames.frameBytes serial·Frames.frameWrite can·Can.kindOfType can·Can.identifier can·Can.frame can·Can.inSeries can·Can.series can·Can.framesBehind can·Can.canBytes can·Can.canWrite can·Can.typeLegal can·Can.zeros can·Can.firstFits can·Can.firstChecks can·Can.laterFits can·Can.sameBytes can·Can.laterChecks can·Can.prepend can·Can.laterFrames can·Can.allFrames can·Can.canError can·Can.canMessage can·Can.canIdLegal can·Can.canFits can·Can.complete can·Can.canRead link·Link.linkRead link·Link.linkWrite link·Link.linkCarried file·File.sizeLegal file·File.frameCount file·File.fileFrame checksum·Checksum.sum checksum·Checksum.checksum device_rules·Device.frame device_rules·Device.newDevice device_rules·Device.make device_rules·Faults.fault device_rules·Faults.setupFault device_rules·Faults.bufferFault device_rules·Faults.numberFault device_rules·Faults.takeFault device_rules·Faults.frameFault device_rules·Faults.cancelFault device_rules·Faults.commandFault device_rules·Commands.setupDone device_rules·Commands.takeDone device_rules·Commands.frameDone device_rules·Commands.cancelDone device_rules·Commands.commandDone device_rules·Commands.afterCommand device_rules·Receive.isTaken device_rules·Receive.answerSource device_rules·Receive.answerTo device_rules·Receive.infoBytes message·Answer.about device_rules·Receive.commandAnswer device_rules·Receive.commandReply device_rules·Receive.telemetryReply device_rules·Receive.kindReply device_rules·Receive.messageReply device_rules·Receive.receive device_rules·Work.frameStored device_rules·Work.hasRoom device_rules·Work.work device_rules·Work.storeAfter device_rules·Work.worked upload·Sender.newSender upload·Sender.addressesLegal upload·Sender.start upload·Sender.senderTold upload·Sender.requestPayload upload·Sender.requestMessage upload·Sender.sameFile upload·Sender.request upload·Sender.requestTold upload·Sender.framesKnown upload·Round.fits upload·Round.takenError upload·Round.compared upload·Round.confirmed upload·Round.informed upload·Round.ackMeaning upload·Round.nackMeaning upload·Round.infoMeaning upload·Round.kindMeaning upload·Round.meaning upload·Round.waited upload·Round.hasNext upload·Round.advanced upload·Round.roundOver upload·Round.hear upload·World.lent upload·World.kept device_rules·Work.afterWork device_rules·Answers.afterReceive upload·World.bytesOr upload·World.senderOr upload·World.does upload·World.run upload·World.answerCheck upload·World.callCheck upload·World.isFailed upload·World.isRefused upload·Schedule.isGood upload·Schedule.goods upload·Schedule.exchange upload·Schedule.requested upload·Schedule.roundCalls upload·Schedule.scheduled message·Kinds.errorCarried message·Kinds.indexCarried message·Kinds.carriedOn
 marked =
     let p11 : (l : Link) → NothingLost l = on-every NothingLost (refl, refl, refl, refl) (refl, refl, refl, refl) (refl, refl, refl, refl) (refl, refl, refl, refl) in
     let p12 : (l : Link) → AnswerLost l = on-every AnswerLost (refl, refl, refl) (refl, refl, refl) (refl, refl, refl) (refl, refl, refl) in

@@ -10,7 +10,7 @@ use Rattle.message.specs.declared.ErrorByte.the-variants.{Told}
 use Rattle.message.specs.declared.Kind.{Kind}
 use Rattle.message.specs.declared.Kind.the-variants.{Telecommand, TelecommandAck, TelecommandNack, TelemetryRequest}
 use Rattle.message.specs.declared.Message.{Message}
-use Rattle.can.specs.Can.{canBytes}
+use Rattle.can.specs.Can.{canWrite}
 use Rattle.csp.specs.Csp.{cspRead}
 use Rattle.serial.specs.Frames.{frameRead, frameWrite}
 use Rattle.serial.specs.declared.SerialLink.the-variants.{Uart, Rs485}
@@ -31,9 +31,9 @@ use Rattle.upload.specs.declared.State.the-variants.{Finished}
 abbrev pub plain : Kind → ℕ → ℕ → ℕ → Message
 plain k id source destination = record { kind = k; id = id; source = source; destination = destination; error = Told 0; index = 0 }
 
--- A CAN telecommand of n bytes, and the DLC of the last frame of what is written.
-abbrev pub longCommand : ℕ → List ℕ
-longCommand n = canBytes (plain Telecommand 12 16 17) (replicate n 0)
+-- What CAN writes for a telecommand of n bytes (nothing if it is refused), and the DLC of its last frame.
+abbrev pub commandBytes : ℕ → List ℕ
+commandBytes n = bytesOr [] (canWrite (plain Telecommand 12 16 17) (replicate n 0))
 
 abbrev pub lastDlc : List ℕ → ℕ
 lastDlc b = getD b (length b - 13 + 4) 0
@@ -49,13 +49,16 @@ emptyStore = replicate 303 0xA5
 abbrev pub stored : List ℕ
 stored = file ++ replicate 3 0xA5
 
+-- The bytes of the setup on a link.
+unfoldable pub setupBytes : Link → List ℕ
+setupBytes l = bytesOr [] (linkWrite l (plain Telecommand 20 255 31) (toBytes 4 300))
+
 -- Unit and sender after the setup, which arrives as bytes on the link.
 unfoldable pub opened : Link → World
 opened l =
     let unit = newDevice l 31 in
-    let setup = bytesOr [] (linkWrite l (plain Telecommand 20 255 31) (toBytes 4 300)) in
     record {
-      device = afterReceive unit (receive unit 303 setup);
+      device = afterReceive unit (receive unit 303 (setupBytes l));
       store = emptyStore;
       sender = newSender l 255 31 300;
       request = [];
@@ -105,12 +108,12 @@ cases =
     -- P7: RS485 tlmreq 128 from 31 to 255: `1F 80 80 1F 1F FF 1F FF`.
     ∷ (frameWrite Rs485 (plain TelemetryRequest 128 31 255) [] ≡ written (0x1F ∷ 0x80 ∷ 0x80 ∷ 0x1F ∷ 0x1F ∷ 0xFF ∷ 0x1F ∷ 0xFF ∷ []))
     -- P8: CAN frames and last DLC: 13 bytes 2 and 7; 14 bytes 3 and 1; 18 bytes 3 and 5; 256 bytes 37 and 5.
-    ∷ ((length (longCommand 13) ≡ 13 * 2) × (lastDlc (longCommand 13) ≡ 7))
-    ∷ ((length (longCommand 14) ≡ 13 * 3) × (lastDlc (longCommand 14) ≡ 1))
-    ∷ ((length (longCommand 18) ≡ 13 * 3) × (lastDlc (longCommand 18) ≡ 5))
-    ∷ ((length (longCommand 256) ≡ 13 * 37) × (lastDlc (longCommand 256) ≡ 5))
+    ∷ ((length (commandBytes 13) ≡ 13 * 2) × (lastDlc (commandBytes 13) ≡ 7))
+    ∷ ((length (commandBytes 14) ≡ 13 * 3) × (lastDlc (commandBytes 14) ≡ 1))
+    ∷ ((length (commandBytes 18) ≡ 13 * 3) × (lastDlc (commandBytes 18) ≡ 5))
+    ∷ ((length (commandBytes 256) ≡ 13 * 37) × (lastDlc (commandBytes 256) ≡ 5))
     -- P9: tc 12 from 16 to 17: identifier 0x010C1011.
-    ∷ (fromBytes (take 4 (canBytes (plain Telecommand 12 16 17) [])) ≡ 0x010C1011)
+    ∷ (fromBytes (take 4 (commandBytes 0)) ≡ 0x010C1011)
     -- P10: CSP `02 0C 00`: tcack 12; `02 0C 01`: 7.
     ∷ (cspRead (0x02 ∷ 0x0C ∷ 0x00 ∷ []) ≡ given (plain TelecommandAck 12 0 0) [])
     ∷ (cspRead (0x02 ∷ 0x0C ∷ 0x01 ∷ []) ≡ refused 7)

@@ -1,4 +1,5 @@
--- The laws of splitting a line: what the byte at place i makes of the words from there on.
+-- The laws of splitting a line: what the byte at place i makes of the words from there on. Carried by the test of that byte, at which the
+-- definitions compute.
 use Prim.Native.Nat.{ℕ, zero, suc, _+_, _-_, _≤_, _<_}
 use mathlib.Core.Path.{_≡_, refl, ap}
 use mathlib.Core.Bool.{Bool, true, false, cond}

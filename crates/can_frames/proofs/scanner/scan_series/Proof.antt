@@ -5,11 +5,11 @@ use native.Mathlib.Nat.{add-sub-cancel-left}
 use native.Mathlib.Omega.{arith}
 use borrow.Author.Needs.{needs}
 use denote.Ref.{now}
-use lib.ListN.{length, take, drop, length-drop}
+use lib.ListN.{length, drop, length-drop}
 use lib.Seq.{length-take-le}
 use Rattle.message.specs.Answer.{verdictTold}
 use Rattle.can_frames.specs.Told.{framesTold}
-use Rattle.can_frames.proofs.Scanning.{passed-dlc, Ahead, ahead-first, ahead-cut, ahead-failed, ahead-passed, ahead-done}
+use Rattle.can_frames.proofs.Scanning.{told-passed, Ahead, ahead-first, ahead-cut, ahead-failed, ahead-passed, ahead-done}
 use Rattle.can_frames.proofs.scanner.scan_series.Statement.{statement}
 use Rattle.can_frames.proofs.scanner.scan_series.Tie as tie
 
@@ -86,26 +86,13 @@ cast-size : tie.Need-cast-size Inv-loop μ-loop
 cast-size c = omega (arith, c .shared-slice-known3 .given (c .before .before .before .before .before .before .before .loop .at + 4))
 
 sub-size : tie.Need-sub-size Inv-loop μ-loop
-unfolding verdictTold
-sub-size c =
-    let s = c .before .before .before .before .before .before .before .before .before .before in
-    let l = c .before .before .before .before .before .before .before .loop in
-    let b = now (s .args .bytes) in
-    let told = rw add-sub-cancel-left at (c .before .before .before .later-checks .ensures) in
-    let passes = sym told ∙ ap verdictTold (c .before .enum-told .given .1) in
-    let d = passed-dlc b (take 4 b) (l .left - 1) (l .at) passes in
-    omega (arith, d)
+sub-size c = told-passed _ _ _ (c .before .before .before .before .before .before .before .loop .at) _ (c .before .before .before .later-checks .ensures) (c .before .enum-told .given .1) .1
 
 add-size-2 : tie.Need-add-size-2 Inv-loop μ-loop
-unfolding verdictTold
 add-size-2 c =
-    let s = c .before .before .before .before .before .before .before .before .before .before in
     let l = c .before .before .before .before .before .before .before .loop in
-    let b = now (s .args .bytes) in
-    let told = rw add-sub-cancel-left at (c .before .before .before .later-checks .ensures) in
-    let passes = sym told ∙ ap verdictTold (c .before .enum-told .given .1) in
-    let d = passed-dlc b (take 4 b) (l .left - 1) (l .at) passes in
-    omega (arith, d, l .inv .0, l .inv .1, c .before .before .before .before .before .if1 .left)
+    let t = told-passed _ _ _ (l .at) _ (c .before .before .before .later-checks .ensures) (c .before .enum-told .given .1) in
+    omega (arith, t .1, t .2, l .inv .0, l .inv .1, c .before .before .before .before .before .if1 .left)
 
 add-at : tie.Need-add-at Inv-loop μ-loop
 add-at c = omega (arith, c .before .before .before .before .before .before .before .loop .inv .0, c .before .before .before .before .before .if1 .left)
@@ -114,15 +101,10 @@ loop-less : tie.Need-loop-less Inv-loop μ-loop
 loop-less c = search needs
 
 loop-again : tie.Need-loop-again Inv-loop μ-loop
-unfolding verdictTold
 loop-again c =
-    let s = c .before .before .before .before .before .before .before .before .before .before in
     let l = c .before .before .before .before .before .before .before .loop in
-    let b = now (s .args .bytes) in
-    let told = rw add-sub-cancel-left at (c .before .before .before .later-checks .ensures) in
-    let passes = sym told ∙ ap verdictTold (c .before .enum-told .given .1) in
-    let d = passed-dlc b (take 4 b) (l .left - 1) (l .at) passes in
-    (omega (arith, l .inv .0, c .before .before .before .before .before .if1 .left), omega (arith, d, l .inv .1), ahead-passed b (l .at) (l .size) (l .left) (l .left - 1) (omega arith) (l .inv .2) (c .before .before .before .before .before .if1 .left) passes)
+    let t = told-passed _ _ _ (l .at) _ (c .before .before .before .later-checks .ensures) (c .before .enum-told .given .1) in
+    (omega (arith, l .inv .0, c .before .before .before .before .before .if1 .left), omega (arith, t .1, t .2, l .inv .1), ahead-passed _ (l .at) (l .size) (l .left) (l .left - 1) (omega arith) (l .inv .2) (c .before .before .before .before .before .if1 .left) (t .0))
 
 sub-rest : tie.Need-sub-rest Inv-loop μ-loop
 sub-rest c = omega (arith, c .before .loop .inv .0)
