@@ -1,4 +1,4 @@
-// Doubling: each ESC between head and tail is written twice, so that a single one is always a mark. Both links have the same ESC.
+// Doubling: each ESC between head and tail is written twice, so that a single one is always a control byte. Both links have the same ESC.
 ghost use Prim.Native.Nat.{_+_, _≤_};
 ghost use mathlib.Core.Path.{_≡_};
 ghost use mathlib.Core.List.{[], _∷_};

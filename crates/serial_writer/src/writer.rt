@@ -12,17 +12,17 @@ use crate::double::double;
 use crate::double::doubled_length;
 use crate::double::put;
 use crate::start::carries;
-use crate::start::escape;
 use crate::start::row_of;
 use crate::start::start_byte;
-use crate::start::tail;
 use message::Message;
 use message::Refusal;
 use message::Verdict;
 use message::WriteAnswer;
 use serial::SerialLink;
+use serial_head::escape;
 use serial_head::head_length;
 use serial_head::source_legal;
+use serial_head::tail;
 
 // Writes a message with its payload as a frame to the start of out.
 pub fn write(link: SerialLink, message: Message, payload: &[u8], out: &mut [u8]) -> WriteAnswer
