@@ -16,7 +16,7 @@ pub(crate) fn id_legal(kind: Kind, id: u8) -> bool
     ensures { λ r. ⌜ r ≡ idLegal kind id ⌝ }
 {
     let row = ranges::row_of(kind);
-    let range = row.0;
+    let range = row.id;
     contains(range, id as usize)
 }
 
@@ -24,7 +24,7 @@ pub(crate) fn payload_legal(kind: Kind, length: usize) -> bool
     ensures { λ r. ⌜ r ≡ payloadLegal kind length ⌝ }
 {
     let row = ranges::row_of(kind);
-    let range = row.1;
+    let range = row.payload;
     contains(range, length)
 }
 
@@ -34,7 +34,7 @@ pub(crate) fn error_legal(kind: Kind, error: ErrorByte) -> bool
     match error {
         ErrorByte::Told(e) => {
             let row = ranges::row_of(kind);
-            let range = row.2;
+            let range = row.error;
             contains(range, e as usize)
         }
         ErrorByte::NotTold => kinds::error_length(kind) != 1,

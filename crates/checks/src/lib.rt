@@ -1,4 +1,5 @@
-// The checks that reading and writing share, in their order: 9 the link, 5 the ID, 6 the length, 7 the error byte.
+// The checks of a message, in their order: 5 the ID, 6 the length and 7 the error byte, when it is read and when it is written, and before
+// them, when it is written, 9 the link.
 // The rules are definitions of `message`: `Checks` (the rows) and `Kinds` (the ranges).
 mod legal;
 

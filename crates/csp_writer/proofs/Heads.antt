@@ -1,4 +1,4 @@
--- A payload laid behind its head, and the head stored then, are the message's bytes over the start of the output.
+-- A payload laid behind its head, and the head stored then, are the message's bytes over the start of the output: by what a run of stores leaves, and what `lay` answers.
 use Prim.Native.Nat.{ℕ, _+_, _≤_, _<_}
 use mathlib.Core.Path.{_≡_, refl}
 use mathlib.Core.List.{List, _++_, append-assoc}

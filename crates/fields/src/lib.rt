@@ -1,5 +1,5 @@
-// What the fields of a message, and a refusal, come to on a link. The rules are definitions of `message`: `Answer` (the refusals'
-// numbers), `Body` (the error byte) and `Kinds` (what a kind carries).
+// Document 01's number of a refusal, the number of an error byte, and the fields that a message carries. The rules are definitions of
+// `message`: `Answer` (the refusals' numbers), `Body` (the error byte) and `Kinds` (what a kind carries).
 ghost use mathlib.Core.Bool.{true};
 ghost use mathlib.Core.Path.{_≡_};
 ghost use Rattle.message.specs.Answer.{number};

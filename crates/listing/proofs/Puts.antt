@@ -1,26 +1,17 @@
--- The laws of putting text at a place of an output: one text behind another, by runs of stores that pass over what lies past the end.
+-- The laws of putting text at a place of an output, byte by byte: a turn and the end of a run of stores, and a line's length as the sum of its fields'.
 use Prim.Native.Nat.{ℕ, suc, _+_, _/_, _≤_, _<_}
-use mathlib.Core.List.{List, [], _∷_, _++_}
+use mathlib.Core.List.{List, [], _∷_}
 use mathlib.Core.Path.{_≡_}
 use native.Mathlib.Numerals.{add-one}
 use native.Mathlib.Omega.{arith}
 use borrow.Author.Tests.{lt-ltb}
 use lib.ListN.{length, getD, drop, length-append, drop-of-length-le}
 use lib.Seq.{drop-cons, sets}
-use Rattle.message.proofs.Stores.{sets-append}
 use Rattle.digits.proofs.Printing.{decimal-more}
 use Rattle.digits.specs.Digits.{digitOf}
 use Rattle.digits.specs.Numbers.{decimal}
 use Rattle.listing.specs.Lines.{nameText, fieldText, spaced, lineText}
 use Rattle.listing.specs.declared.Line.{Line}
-
--- What putting s at a place of `out` gives: the place behind it, and the output then.
-abbrev pub Put : List ℕ → ℕ → List ℕ → ℕ → List ℕ → Type 0
-Put out at s next left = (next ≡ at + length s) × (left ≡ sets out at s)
-
-pub put-more : (a b out mid left : List ℕ) (at m n : ℕ) → Put out at a m mid → Put mid m b n left → Put out at (a ++ b) n left
-put-more a b out mid left at m n p q =
-    rw (q .0, q .1, p .0, p .1, length-append) (omega arith, sets-append out at a b)
 
 -- A turn of a loop that puts a text byte by byte, and its end.
 module _ (s out : List ℕ) (at i : ℕ) where

@@ -5,7 +5,7 @@ use mathlib.Core.Path.{_≡_, ap, sym, _∙_}
 use native.Mathlib.Omega.{arith}
 use lib.ListN.{length, getD, drop, length-append, length-drop}
 use lib.Seq.{sets, drop-drop}
-use Rattle.message.proofs.Stores.{sets-append}
+use Rattle.message.proofs.Stores.{Put, put-more, sets-append}
 use Rattle.stuffing.specs.Stuffing.{scan, frameScan}
 use Rattle.stuffing.specs.declared.Stop.{Stop}
 use Rattle.serial.specs.Frames.{startRow}
@@ -15,7 +15,6 @@ use Rattle.serial.specs.declared.StartRow.the-variants.{Known, Unknown}
 use Rattle.listing.specs.Listing.{frameLength, frameLine, lines, header, listing, longest}
 use Rattle.listing.proofs.Bound.{frame-inside, lines-short}
 use Rattle.listing.proofs.Limit.{listed-within}
-use Rattle.listing.proofs.Puts.{Put, put-more}
 use Rattle.listing.proofs.Walks.{pass-byte, pass-pair, pass-end, pass-frame}
 
 -- The lines of what stands from a place of the bytes on.

@@ -1,4 +1,4 @@
--- The laws of the answer shapes: when an output is long enough, and how a copy fills its start byte by byte.
+-- The laws of the answer shapes, by the test of the output's length and the case of the answer; those of a copy by one byte more at its place.
 use Prim.Native.Nat.{ℕ, suc, _+_, _≤_, _<_}
 use mathlib.Core.Path.{_≡_, refl, _∙_, ap}
 use mathlib.Core.Bool.{Bool, true, false}

@@ -1,4 +1,5 @@
--- The laws of the data that UART, RS485 and CSP share: what its checks say, and that reading and writing it are inverse.
+-- The laws of the data that UART, RS485 and CSP share: what its checks say, by their tests, and that reading and writing it are inverse, by the
+-- case of the kind.
 use Prim.Native.Nat.{ℕ, _+_, _-_, _≤_}
 use mathlib.Core.Path.{_≡_, refl, ap, _∙_}
 use mathlib.Core.Bool.{Bool, true, false, cond}

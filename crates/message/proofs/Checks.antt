@@ -1,11 +1,11 @@
--- The laws of a row of checks: it passes exactly where each of its tests holds.
+-- The laws of a row of checks, by its tests in their order: which number a failed one gives, and that the row passes exactly where each holds.
 use Prim.Native.Nat.{ℕ, _≤_}
 use mathlib.Core.Path.{_≡_, refl}
 use mathlib.Core.Bool.{Bool, true, false, _&&_}
 use native.Mathlib.Omega.{arith}
 use borrow.Author.Tests.{leb-true}
 use lib.Dec.{leb}
-use Rattle.message.specs.Answer.{Check, passed, require}
+use Rattle.message.specs.Answer.{Check, passed, failed, require}
 use Rattle.message.specs.Checks.{idLegal, payloadLegal, errorLegal, fieldChecks, told, writable, writeChecks}
 use Rattle.message.specs.Kinds.{inside, payloadRange, isEvent}
 use Rattle.message.specs.declared.Carries.{Carries}
@@ -23,6 +23,16 @@ both-true true b e = (refl, e)
 both-true false b e = absurd (let z : _≡_ {A = ℕ} 0 1 = cc in omega arith)
 
 module _ (m : Message) (fits : Bool) where
+  -- "5, 6, 7": an ID out of the kind's range is 5, whatever the length is;
+  pub id-first : idLegal (m .kind) (m .id) ≡ false → fieldChecks m fits ≡ failed 5
+  unfolding fieldChecks require
+  id-first h5 = rw h5
+
+  -- with a legal ID a wrong length is 6, whatever the error byte is.
+  pub length-next : idLegal (m .kind) (m .id) ≡ true → fits ≡ false → fieldChecks m fits ≡ failed 6
+  unfolding fieldChecks require
+  length-next h5 h6 = rw (h5, h6)
+
   pub fields-passed : fieldChecks m fits ≡ passed → (idLegal (m .kind) (m .id) ≡ true) × (fits ≡ true) × (errorLegal (m .kind) (m .error) ≡ true)
   unfolding fieldChecks
   fields-passed h =

@@ -1,4 +1,4 @@
--- Parts of a slice: what `&s[n..]` lends, and what `&mut s[n..]` gives back.
+-- Parts of a slice, by the laws of taking and dropping: what `&s[n..]` lends, and what `&mut s[n..]` gives back.
 use Prim.Native.Nat.{ℕ, _-_, _≤_}
 use mathlib.Core.Path.{_≡_}
 use mathlib.Core.List.{List, _++_, append-nil}

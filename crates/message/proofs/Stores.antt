@@ -1,10 +1,10 @@
--- Runs of stores: one goes on where another stopped, and from the start on they lay bytes over an output.
+-- Runs of stores, by induction over the bytes stored: one goes on where another stopped, and from the start on they lay bytes over an output.
 use Prim.Native.Nat.{ℕ, suc, _+_, _≤_}
 use mathlib.Core.List.{List, [], _∷_, _++_}
 use mathlib.Core.Path.{_≡_, _∙_}
 use native.Mathlib.Nat.{add-zero, zero-add}
 use native.Mathlib.Omega.{arith}
-use lib.ListN.{length, set, drop}
+use lib.ListN.{length, set, drop, length-append}
 use lib.Seq.{sets, sets-eq}
 
 pub sets-append : (l : List ℕ) (i : ℕ) (a b : List ℕ) → sets (sets l i a) (i + length a) b ≡ sets l i (a ++ b)
@@ -15,3 +15,11 @@ sets-append l i (x ∷ a) b =
 
 pub sets-start : (b out : List ℕ) → length b ≤ length out → sets out 0 b ≡ b ++ drop (length b) out
 sets-start b out h = sets-eq b out 0 (omega arith) ∙ rw zero-add
+
+-- What putting s at a place of `out` gives: the place behind it, and the output then.
+abbrev pub Put : List ℕ → ℕ → List ℕ → ℕ → List ℕ → Type 0
+Put out at s next left = (next ≡ at + length s) × (left ≡ sets out at s)
+
+pub put-more : (a b out mid left : List ℕ) (at m n : ℕ) → Put out at a m mid → Put mid m b n left → Put out at (a ++ b) n left
+put-more a b out mid left at m n p q =
+    rw (q .0, q .1, p .0, p .1, length-append) (omega arith, sets-append out at a b)

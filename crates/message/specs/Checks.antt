@@ -1,5 +1,5 @@
--- The checks that reading and writing share, in their order (document 01, "Refusal numbers"): 9, 5, 6, 7. The 8 comes last, with the
--- lent output.
+-- The checks of a message, in their order (document 01, "Refusal numbers"): 5, 6, 7 when it is read, 9, 5, 6, 7 when it is written. The 8
+-- comes last, with the lent output.
 use Prim.Native.Nat.{ℕ, _-_}
 use mathlib.Core.Bool.{Bool, true, not, _&&_, _||_, cond}
 use lib.Dec.{leb}
@@ -11,9 +11,11 @@ use Rattle.message.specs.declared.ErrorByte.the-variants.{Told, NotTold}
 use Rattle.message.specs.declared.Kind.{Kind}
 use Rattle.message.specs.declared.Message.{Message}
 
+-- "Messages": the ID is of the kind's range.
 unfoldable pub idLegal : Kind → ℕ → Bool
 idLegal k id = inside (idRange k) id
 
+-- "Messages": the kind can carry a payload of n bytes.
 unfoldable pub payloadLegal : Kind → ℕ → Bool
 payloadLegal k n = inside (payloadRange k) n
 

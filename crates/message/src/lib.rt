@@ -1,8 +1,8 @@
 // Messages of the CubeProduct protocol, and the answers of everything that reads or writes them.
 //
 // The rules are definitions of `specs/`: `Kinds` (which IDs, lengths and error bytes a kind has), `Checks` (the order of
-// the refusals 5, 6, 7), `Body` (the data on UART, RS485 and CSP) and `Answer` (what a refusal or an answer is). The code of
-// the tables is the crate `kinds`, that of the fields `fields`, that of `Checks` `checks`; bytes reach a lent output by `output`.
+// the refusals 9, 5, 6, 7), `Body` (the data on UART, RS485 and CSP) and `Answer` (what a refusal or an answer is). Their code is in
+// crates of their own: the tables `kinds` and `ranges`, the fields `fields`, the checks `checks`; bytes reach a lent output by `output`.
 
 // The seven kinds, with document 01's name for each.
 pub enum Kind {

@@ -4,19 +4,30 @@ ghost use Rattle.message.specs.Kinds.{idRange, payloadRange, errorRange};
 use message::Kind;
 use message::Range;
 
-// The ranges of the ID, of the payload's length and of the error byte.
-pub struct Row(pub Range, pub Range, pub Range);
+pub struct Row {
+    pub id: Range,
+    // Of the payload's length.
+    pub payload: Range,
+    // Of the error byte.
+    pub error: Range,
+}
 
 pub fn row_of(kind: Kind) -> Row
-    ensures { λ r. ⌜ (r .0 ≡ idRange kind) × (r .1 ≡ payloadRange kind) × (r .2 ≡ errorRange kind) ⌝ }
+    ensures { λ r. ⌜ (r .id ≡ idRange kind) × (r .payload ≡ payloadRange kind) × (r .error ≡ errorRange kind) ⌝ }
 {
     match kind {
-        Kind::Telecommand => Row(Range(0, 127), Range(0, 256), Range(0, 255)),
-        Kind::TelecommandAck => Row(Range(0, 127), Range(0, 0), Range(0, 0)),
-        Kind::TelecommandNack => Row(Range(0, 127), Range(0, 0), Range(1, 10)),
-        Kind::TelemetryRequest => Row(Range(128, 254), Range(0, 0), Range(0, 255)),
-        Kind::TelemetryResponse => Row(Range(128, 254), Range(0, 256), Range(0, 255)),
-        Kind::TelemetryNack => Row(Range(128, 254), Range(0, 0), Range(1, 10)),
-        Kind::Event => Row(Range(0, 255), Range(24, 24), Range(0, 255)),
+        Kind::Telecommand => allowed(Range(0, 127), Range(0, 256), Range(0, 255)),
+        Kind::TelecommandAck => allowed(Range(0, 127), Range(0, 0), Range(0, 0)),
+        Kind::TelecommandNack => allowed(Range(0, 127), Range(0, 0), Range(1, 10)),
+        Kind::TelemetryRequest => allowed(Range(128, 254), Range(0, 0), Range(0, 255)),
+        Kind::TelemetryResponse => allowed(Range(128, 254), Range(0, 256), Range(0, 255)),
+        Kind::TelemetryNack => allowed(Range(128, 254), Range(0, 0), Range(1, 10)),
+        Kind::Event => allowed(Range(0, 255), Range(24, 24), Range(0, 255)),
     }
+}
+
+fn allowed(id: Range, payload: Range, error: Range) -> Row
+    ensures { λ r. ⌜ (r .id ≡ id) × (r .payload ≡ payload) × (r .error ≡ error) ⌝ }
+{
+    Row { id, payload, error }
 }

@@ -1,4 +1,5 @@
-// What document 01 settles for each serial link and both directions: the start bytes, what stands in front of the data, and the source.
+// What document 01 settles for each serial link and both directions: ESC and the tail, the start bytes, what stands in front of the data, and the
+// source.
 // The rules are `serial`'s.
 ghost use mathlib.Core.Path.{_≡_};
 ghost use Rattle.serial.specs.Frames.{startRow, headLength, sourceLegal};
@@ -7,6 +8,26 @@ use serial::SerialLink;
 use serial::StartRow;
 use stuffing::Rs485;
 use stuffing::Uart;
+
+// The ESC of a link. Both have the same.
+pub fn escape(link: SerialLink) -> u8
+    ensures { λ r. ⌜ r ≡ 0x1F ⌝ }
+{
+    match link {
+        SerialLink::Uart => Uart::ESC,
+        SerialLink::Rs485 => Rs485::ESC,
+    }
+}
+
+// The byte behind the last ESC of a frame. Both links have the same.
+pub fn tail(link: SerialLink) -> u8
+    ensures { λ r. ⌜ r ≡ 0xFF ⌝ }
+{
+    match link {
+        SerialLink::Uart => Uart::TAIL,
+        SerialLink::Rs485 => Rs485::TAIL,
+    }
+}
 
 // The row of a start byte of a link.
 pub fn start_row(link: SerialLink, start: u8) -> StartRow

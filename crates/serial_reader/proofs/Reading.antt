@@ -1,4 +1,4 @@
--- The laws of reading the data of a frame: the answer in each case of its checks.
+-- The answer of reading the data of a frame in each case of its checks, by the laws of the shared data: that case rewritten into them.
 use Prim.Native.Nat.{ℕ, _+_, _-_}
 use mathlib.Core.Bool.{true, false}
 use mathlib.Core.List.{List}

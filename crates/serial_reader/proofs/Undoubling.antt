@@ -33,19 +33,19 @@ module _ (b : List ℕ) (i : ℕ) (not-cut : scan (drop i b) ≡ stopped Cut 0 �
           let h : length b ≤ i + 1 = ltb-false _ _ q in
           absurd (not-cut (step-cut b i (omega (arith, inside)) e))
 
--- The unit at a place is k bytes long, and stands for its first byte.
-pub record UnitAt (b : List ℕ) (i k : ℕ) : Type 0 where
+-- The encoded byte at a place takes k bytes, and stands for the first of them.
+pub record EncodedAt (b : List ℕ) (i k : ℕ) : Type 0 where
   pub scanned : scan (drop i b) ≡ more (getD b i 0) k (scan (drop (i + k) b))
   pub fits : i + k ≤ length b
 
 module _ (b : List ℕ) (i : ℕ) where
-  pub plain-unit : i < length b → (getD b i 0 ≡ 0x1F → ⊥) → UnitAt b i 1
-  plain-unit h ne = record { scanned = step-plain b i h ne; fits = omega arith }
+  pub plain-byte : i < length b → (getD b i 0 ≡ 0x1F → ⊥) → EncodedAt b i 1
+  plain-byte h ne = record { scanned = step-plain b i h ne; fits = omega arith }
 
   -- An ESC where the scan doesn't stop is doubled.
-  doubled-unit : (scan (drop i b) ≡ stopped Cut 0 → ⊥) → (scan (drop i b) ≡ stopped Broken 0 → ⊥) → (getD b (i + 1) 0 ≡ 0xFF → scan (drop i b) ≡ stopped Ended 2 → ⊥) → getD b i 0 ≡ 0x1F → UnitAt b i 2
+  doubled-byte : (scan (drop i b) ≡ stopped Cut 0 → ⊥) → (scan (drop i b) ≡ stopped Broken 0 → ⊥) → (getD b (i + 1) 0 ≡ 0xFF → scan (drop i b) ≡ stopped Ended 2 → ⊥) → getD b i 0 ≡ 0x1F → EncodedAt b i 2
   unfolding escaped
-  doubled-unit cut broken ended e = by (eqb next 0x1F) (eqb next 0xFF) refl refl
+  doubled-byte cut broken ended e = by (eqb next 0x1F) (eqb next 0xFF) refl refl
     where
       next : ℕ
       next = getD b (i + 1) 0
@@ -53,7 +53,7 @@ module _ (b : List ℕ) (i : ℕ) where
       at : (i + 1 < length b) × (scan (drop i b) ≡ escaped next (scan (drop (i + 2) b)))
       at = escape b i cut e
 
-      by : (t u : Bool) → eqb next 0x1F ≡ t → eqb next 0xFF ≡ u → UnitAt b i 2
+      by : (t u : Bool) → eqb next 0x1F ≡ t → eqb next 0xFF ≡ u → EncodedAt b i 2
       by true u p q = record { scanned = at .1 ∙ rw (p, e); fits = omega (arith, at .0) }
       by false true p q = absurd (ended (eqb-true next 0xFF q) (at .1 ∙ rw (p, q)))
       by false false p q = absurd (broken (at .1 ∙ rw (p, q)))
@@ -66,16 +66,16 @@ module _ (b : List ℕ) (i : ℕ) (left : 0 < length (scan (drop i b) .body)) wh
   pub left-inside : i < length b
   left-inside = inside b i (not-stopped Cut 0)
 
-  pub left-doubled : getD b i 0 ≡ 0x1F → UnitAt b i 2
-  left-doubled = doubled-unit b i (not-stopped Cut 0) (not-stopped Broken 0) (λ _. not-stopped Ended 2)
+  pub left-doubled : getD b i 0 ≡ 0x1F → EncodedAt b i 2
+  left-doubled = doubled-byte b i (not-stopped Cut 0) (not-stopped Broken 0) (λ _. not-stopped Ended 2)
 
-  -- Either unit stands for its first byte.
+  -- Plain or doubled, an encoded byte stands for the first of its bytes.
   pub left-byte : getD (scan (drop i b) .body) 0 0 ≡ getD b i 0
   left-byte = by (eqb (getD b i 0) 0x1F) refl
     where
       by : (t : Bool) → eqb (getD b i 0) 0x1F ≡ t → getD (scan (drop i b) .body) 0 0 ≡ getD b i 0
       by true q = rw (left-doubled (eqb-true (getD b i 0) 0x1F q) .scanned)
-      by false q = rw (plain-unit b i left-inside (eqb-false (getD b i 0) 0x1F q) .scanned)
+      by false q = rw (plain-byte b i left-inside (eqb-false (getD b i 0) 0x1F q) .scanned)
 
 -- Where a scan finds the tail, an ESC is doubled or is the tail's.
 module _ (b : List ℕ) (i : ℕ) (ended : scan (drop i b) .stop ≡ Ended) where
@@ -96,10 +96,10 @@ module _ (b : List ℕ) (i : ℕ) (ended : scan (drop i b) .stop ≡ Ended) wher
     unfolding escaped
     ended-tail q = rw (escape b i not-cut e .1, q)
 
-    pub ended-doubled : (getD b (i + 1) 0 ≡ 0xFF → ⊥) → UnitAt b i 2
-    ended-doubled ne = doubled-unit b i not-cut not-broken (λ q _. ne q) e
+    pub ended-doubled : (getD b (i + 1) 0 ≡ 0xFF → ⊥) → EncodedAt b i 2
+    ended-doubled ne = doubled-byte b i not-cut not-broken (λ q _. ne q) e
 
--- The place `at` stands i units behind `from`.
+-- The place `at` stands i encoded bytes behind `from`.
 abbrev pub Behind : List ℕ → ℕ → ℕ → ℕ → Type 0
 Behind b from i at = (scan (drop at b) .body ≡ drop i (scan (drop from b) .body)) × (scan (drop at b) .stop ≡ scan (drop from b) .stop) × (at + scan (drop at b) .passed ≡ from + scan (drop from b) .passed)
 
@@ -107,7 +107,7 @@ module _ (b : List ℕ) (from i at : ℕ) (h : Behind b from i at) (l : i < leng
   left : 0 < length (scan (drop at b) .body)
   left = rw (h .0, length-drop) (omega arith)
 
-  more-behind : (k : ℕ) → UnitAt b at k → Behind b from (i + 1) (at + k)
+  more-behind : (k : ℕ) → EncodedAt b at k → Behind b from (i + 1) (at + k)
   more-behind k u =
       let body : scan (drop at b) .body ≡ getD b at 0 ∷ scan (drop (at + k) b) .body = ap (λ (r : Scan). r .body) (u .scanned) in
       let stop : scan (drop at b) .stop ≡ scan (drop (at + k) b) .stop = ap (λ (r : Scan). r .stop) (u .scanned) in
@@ -121,7 +121,7 @@ module _ (b : List ℕ) (from i at : ℕ) (h : Behind b from i at) (l : i < leng
   behind-byte = sym (left-byte b at left) ∙ rw (h .0, getD-drop, add-zero)
 
   pub behind-plain : (getD b at 0 ≡ 0x1F → ⊥) → Behind b from (i + 1) (at + 1)
-  behind-plain ne = more-behind 1 (plain-unit b at behind-inside ne)
+  behind-plain ne = more-behind 1 (plain-byte b at behind-inside ne)
 
   pub behind-doubled : getD b at 0 ≡ 0x1F → (at + 2 ≤ length b) × Behind b from (i + 1) (at + 2)
   behind-doubled e = let u = left-doubled b at left e in (u .fits, more-behind 2 u)
@@ -130,8 +130,8 @@ module _ (b : List ℕ) (from i at : ℕ) (h : Behind b from i at) (l : i < leng
 abbrev pub Storing : List ℕ → List ℕ → List ℕ → ℕ → ℕ → Type 0
 Storing b whole out at to = (scan (drop at b) .stop ≡ Ended) × (to + length (scan (drop at b) .body) ≤ length out) × (sets out to (scan (drop at b) .body) ≡ whole)
 
-pub store-unit : (b whole out : List ℕ) (at k to : ℕ) → Storing b whole out at to → UnitAt b at k → (to < length out) × Storing b whole (set out to (getD b at 0)) (at + k) (to + 1)
-store-unit b whole out at k to h u =
+pub store-byte : (b whole out : List ℕ) (at k to : ℕ) → Storing b whole out at to → EncodedAt b at k → (to < length out) × Storing b whole (set out to (getD b at 0)) (at + k) (to + 1)
+store-byte b whole out at k to h u =
     let body : scan (drop at b) .body ≡ getD b at 0 ∷ scan (drop (at + k) b) .body = ap (λ (r : Scan). r .body) (u .scanned) in
     let stop : scan (drop at b) .stop ≡ scan (drop (at + k) b) .stop = ap (λ (r : Scan). r .stop) (u .scanned) in
     let size = ap length body in
@@ -140,7 +140,7 @@ store-unit b whole out at k to h u =
 -- At an ESC: a doubled one is stored once, and at the tail all is stored.
 module _ (b whole out : List ℕ) (at to : ℕ) (h : Storing b whole out at to) (e : getD b at 0 ≡ 0x1F) where
   pub store-doubled : (getD b (at + 1) 0 ≡ 0xFF → ⊥) → (to < length out) × Storing b whole (set out to 0x1F) (at + 2) (to + 1)
-  store-doubled ne = rw e at (store-unit b whole out at 2 to h (ended-doubled b at (h .0) e ne))
+  store-doubled ne = rw e at (store-byte b whole out at 2 to h (ended-doubled b at (h .0) e ne))
 
   pub store-tail : getD b (at + 1) 0 ≡ 0xFF → out ≡ whole
   store-tail q = rw (ended-tail b at (h .0) e q) at (h .2)

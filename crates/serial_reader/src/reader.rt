@@ -22,11 +22,11 @@ use serial::IdKind;
 use serial::Row;
 use serial::SerialLink;
 use serial::StartRow;
+use serial_head::escape;
 use serial_head::head_length;
 use serial_head::source_legal;
 use serial_head::start_row;
 use stuffing::Stop;
-use stuffing::Uart;
 use stuffing::scan;
 
 // Reads one frame that is the whole input; its payload goes to the start of out.
@@ -37,7 +37,7 @@ pub fn read(link: SerialLink, bytes: &[u8], out: &mut [u8]) -> ReadAnswer
     if bytes.len() < 1 {
         return ReadAnswer::Refused(Refusal::Truncated);
     }
-    if bytes[0] != Uart::ESC {
+    if bytes[0] != escape(link) {
         return ReadAnswer::Refused(Refusal::UnknownStart);
     }
     if bytes.len() < 2 {
@@ -80,7 +80,7 @@ fn read_frame(link: SerialLink, row: Row, bytes: &[u8], count: usize, out: &mut 
     if count < head {
         return ReadAnswer::Refused(Refusal::WrongLength);
     }
-    let id = id_field(row, bytes, count);
+    let id = id_field(link, row, bytes, count);
     match kind_of(row, id) {
         IdKind::Unknown => ReadAnswer::Refused(Refusal::IdOutOfRange),
         IdKind::Known(kind) => read_data(link, kind, id, bytes, count, head, out),
@@ -88,14 +88,14 @@ fn read_frame(link: SerialLink, row: Row, bytes: &[u8], count: usize, out: &mut 
 }
 
 // The ID of a body; an event has none and reads as 255.
-fn id_field(row: Row, bytes: &[u8], count: usize) -> u8
+fn id_field(link: SerialLink, row: Row, bytes: &[u8], count: usize) -> u8
     requires { ⌜ count ≡ length (frameScan (now bytes) .body) ⌝ }
     ensures { λ r. ⌜ r ≡ idField row (frameScan (now (bytes .entry)) .body) ⌝ }
 {
     match row {
-        Row::Request => body_byte(bytes, 2, count, 0),
-        Row::Reply => body_byte(bytes, 2, count, 0),
-        Row::Nack => body_byte(bytes, 2, count, 0),
+        Row::Request => body_byte(link, bytes, 2, count, 0),
+        Row::Reply => body_byte(link, bytes, 2, count, 0),
+        Row::Nack => body_byte(link, bytes, 2, count, 0),
         Row::Event => 255,
     }
 }
@@ -107,7 +107,7 @@ fn address_field(link: SerialLink, bytes: &[u8], count: usize, i: usize) -> u8
 {
     match link {
         SerialLink::Uart => 0,
-        SerialLink::Rs485 => body_byte(bytes, 2, count, i),
+        SerialLink::Rs485 => body_byte(link, bytes, 2, count, i),
     }
 }
 
@@ -130,8 +130,8 @@ fn read_data(
 {
     let source = address_field(link, bytes, count, 1);
     let destination = address_field(link, bytes, count, 2);
-    let error = ErrorByte::Told(body_byte(bytes, 2, count, head));
-    let index = body_byte(bytes, 2, count, head + 1);
+    let error = ErrorByte::Told(body_byte(link, bytes, 2, count, head));
+    let index = body_byte(link, bytes, 2, count, head + 1);
     let raw = Message {
         kind,
         id,
@@ -148,13 +148,14 @@ fn read_data(
                 return ReadAnswer::Refused(Refusal::IllegalValue);
             }
             let skipped = head + kinds::error_length(kind);
-            read_payload(message, bytes, count, skipped, out)
+            read_payload(link, message, bytes, count, skipped, out)
         }
     }
 }
 
 // Undoubles the payload, which stands behind skipped bytes of the body, into the output.
 fn read_payload(
+    link: SerialLink,
     message: Message,
     bytes: &[u8],
     count: usize,
@@ -171,7 +172,7 @@ fn read_payload(
     if out.len() < length {
         return ReadAnswer::Refused(Refusal::OutputTooShort);
     }
-    let at = skip(bytes, 2, skipped);
-    undouble(bytes, at, out);
+    let at = skip(link, bytes, 2, skipped);
+    undouble(link, bytes, at, out);
     ReadAnswer::Message(message, length)
 }

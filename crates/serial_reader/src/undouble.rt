@@ -1,4 +1,4 @@
-// The body of a frame out of its doubled bytes. Positions stand inside a frame; a unit is one byte, or ESC with the byte behind it.
+// The body of a frame out of its doubled bytes. Positions stand inside a frame; an encoded byte is one byte, or ESC with the byte behind it.
 ghost use Prim.Native.Nat.{_+_, _≤_, _<_};
 ghost use mathlib.Core.Path.{_≡_};
 ghost use mathlib.Core.List.{_++_};
@@ -6,17 +6,20 @@ ghost use lib.ListN.{length, getD, drop};
 ghost use lib.Seq.{sets};
 ghost use Rattle.stuffing.specs.Stuffing.{scan};
 ghost use Rattle.stuffing.specs.declared.Stop.the-variants.{Ended};
-use stuffing::Uart;
+use serial::SerialLink;
+use serial_head::escape;
+use serial_head::tail;
 
-// The place behind n units.
-pub(crate) fn skip(bytes: &[u8], from: usize, n: usize) -> usize
+// The place behind n encoded bytes.
+pub(crate) fn skip(link: SerialLink, bytes: &[u8], from: usize, n: usize) -> usize
     requires { ⌜ n ≤ length (scan (drop from (now bytes)) .body) ⌝ }
     ensures { λ r. ⌜ (scan (drop r (now (bytes .entry))) .body ≡ drop n (scan (drop from (now (bytes .entry))) .body)) × (scan (drop r (now (bytes .entry))) .stop ≡ scan (drop from (now (bytes .entry))) .stop) × (r + scan (drop r (now (bytes .entry))) .passed ≡ from + scan (drop from (now (bytes .entry))) .passed) ⌝ }
 {
+    let esc = escape(link);
     let mut at = from;
     let mut i = 0;
     while i < n {
-        if bytes[at] == Uart::ESC {
+        if bytes[at] == esc {
             at += 2;
             i += 1;
             continue;
@@ -27,28 +30,35 @@ pub(crate) fn skip(bytes: &[u8], from: usize, n: usize) -> usize
     at
 }
 
-// The byte i of a body of count bytes, or 0 past its end. The first byte of a unit is its value: a doubled ESC is an ESC.
-pub(crate) fn body_byte(bytes: &[u8], from: usize, count: usize, i: usize) -> u8
+// The byte i of a body of count bytes, or 0 past its end. An encoded byte stands for the first of its bytes: a doubled ESC is an ESC.
+pub(crate) fn body_byte(link: SerialLink, bytes: &[u8], from: usize, count: usize, i: usize) -> u8
     requires { ⌜ count ≡ length (scan (drop from (now bytes)) .body) ⌝ }
     ensures { λ r. ⌜ r ≡ getD (scan (drop from (now (bytes .entry))) .body) i 0 ⌝ }
 {
     if count <= i {
         return 0;
     }
-    let at = skip(bytes, from, i);
+    let at = skip(link, bytes, from, i);
     bytes[at]
 }
 
 // Copies the plain bytes up to the next ESC, and answers how many. The output with the rest of the body stored is what it was
 // with the whole body stored.
-pub(crate) fn copy_plain(bytes: &[u8], from: usize, out: &mut [u8], to: usize) -> usize
+pub(crate) fn copy_plain(
+    link: SerialLink,
+    bytes: &[u8],
+    from: usize,
+    out: &mut [u8],
+    to: usize,
+) -> usize
     requires { ⌜ (scan (drop from (now bytes)) .stop ≡ Ended) × (to + length (scan (drop from (now bytes)) .body) ≤ length (now out)) ⌝ }
     ensures { λ r. ⌜ (from + r + 1 < length (now (bytes .entry))) × (getD (now (bytes .entry)) (from + r) 0 ≡ 0x1F) × (scan (drop (from + r) (now (bytes .entry))) .stop ≡ Ended) × (to + r + length (scan (drop (from + r) (now (bytes .entry))) .body) ≤ length (now (out .exit))) × (sets (now (out .exit)) (to + r) (scan (drop (from + r) (now (bytes .entry))) .body) ≡ sets (now (out .entry)) to (scan (drop from (now (bytes .entry))) .body)) ⌝ }
 {
+    let esc = escape(link);
     let mut n = 0;
     loop {
         let byte = bytes[from + n];
-        if byte == Uart::ESC {
+        if byte == esc {
             return n;
         }
         out[to + n] = byte;
@@ -58,20 +68,22 @@ pub(crate) fn copy_plain(bytes: &[u8], from: usize, out: &mut [u8], to: usize) -
 
 // Stores the body that stands from a place on to the tail over the start of out. The plain bytes between two ESC are copied by a
 // loop of their own: its next place does not depend on the byte just read.
-pub(crate) fn undouble(bytes: &[u8], from: usize, out: &mut [u8])
+pub(crate) fn undouble(link: SerialLink, bytes: &[u8], from: usize, out: &mut [u8])
     requires { ⌜ (scan (drop from (now bytes)) .stop ≡ Ended) × (length (scan (drop from (now bytes)) .body) ≤ length (now out)) ⌝ }
     ensures { λ _. ⌜ now (out .exit) ≡ scan (drop from (now (bytes .entry))) .body ++ drop (length (scan (drop from (now (bytes .entry))) .body)) (now (out .entry)) ⌝ }
 {
+    let esc = escape(link);
+    let last = tail(link);
     let mut at = from;
     let mut to = 0;
     loop {
-        let n = copy_plain(bytes, at, out, to);
+        let n = copy_plain(link, bytes, at, out, to);
         at += n;
         to += n;
-        if bytes[at + 1] == Uart::TAIL {
+        if bytes[at + 1] == last {
             return;
         }
-        out[to] = Uart::ESC;
+        out[to] = esc;
         at += 2;
         to += 1;
     }

@@ -1,4 +1,4 @@
--- The laws of a frame's parts: which fields it has, and what a run of stores leaves.
+-- The laws of a frame's parts: which fields it has, by the case of link and row, and what a run of stores leaves, by the law of one put after another.
 use Prim.Native.Nat.{ℕ, zero, suc, _+_}
 use mathlib.Core.List.{List, [], _∷_, _++_}
 use mathlib.Core.Path.{_≡_, refl, _∙_}
@@ -16,8 +16,8 @@ use Rattle.serial.specs.declared.Row.{Row}
 use Rattle.serial.specs.declared.Row.the-variants.{Request, Reply, Nack, Event}
 use Rattle.serial.specs.declared.SerialLink.{SerialLink}
 use Rattle.serial.specs.declared.SerialLink.the-variants.{Uart, Rs485}
-use Rattle.message.proofs.Stores.{sets-append}
-use Rattle.serial_writer.proofs.Putting.{Put, put-more}
+use Rattle.message.proofs.Stores.{Put, sets-append}
+use Rattle.serial_writer.proofs.Putting.{put-doubled}
 
 -- The fields by their count: none, the ID, or the ID and both addresses.
 abbrev fieldsOf : ℕ → Message → List ℕ
@@ -81,12 +81,12 @@ module _ (l : SerialLink) (m : Message) (p : List ℕ) where
 
   -- The start, what was put behind it part by part, and the tail.
   pub frame-stored : (out first second left : List ℕ) (i j n : ℕ)
-      → Put (set (set out 0 0x1F) 1 (startByte l (rowOf (m .kind)))) 2 fields i first → Put first i (errorBytes m) j second → Put second j p n left
+      → Put (set (set out 0 0x1F) 1 (startByte l (rowOf (m .kind)))) 2 (doubled fields) i first → Put first i (doubled (errorBytes m)) j second → Put second j (doubled p) n left
       → Stored (frameBytes l m p) out left n
   frame-stored out first second left i j n head error payload =
       let start = set (set out 0 0x1F) 1 (startByte l (rowOf (m .kind))) in
       let body = (fields ++ errorBytes m) ++ p in
-      let put = put-more (fields ++ errorBytes m) p start second left 2 j n (put-more fields (errorBytes m) start first second 2 i j head error) payload in
+      let put = put-doubled (fields ++ errorBytes m) p start second left 2 j n (put-doubled fields (errorBytes m) start first second 2 i j head error) payload in
       record {
         size = rw (frame-parts, put .0, length-append) (omega arith);
         kept = rw (put .1) (length-sets start 2 (doubled body) ∙ simp length-set);

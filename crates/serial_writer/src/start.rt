@@ -1,4 +1,4 @@
-// What a written frame begins and ends with, by its link.
+// The start byte of a written frame, and what its link carries.
 ghost use mathlib.Core.Path.{_≡_};
 ghost use Rattle.serial.specs.Frames.{startByte, rowOf, carries};
 use message::Carries;
@@ -54,24 +54,5 @@ pub(crate) fn carries(link: SerialLink) -> Carries
             events: false,
             untold: false,
         },
-    }
-}
-
-// The links share ESC and the tail.
-pub(crate) fn escape(link: SerialLink) -> u8
-    ensures { λ r. ⌜ r ≡ 0x1F ⌝ }
-{
-    match link {
-        SerialLink::Uart => Uart::ESC,
-        SerialLink::Rs485 => Rs485::ESC,
-    }
-}
-
-pub(crate) fn tail(link: SerialLink) -> u8
-    ensures { λ r. ⌜ r ≡ 0xFF ⌝ }
-{
-    match link {
-        SerialLink::Uart => Uart::TAIL,
-        SerialLink::Rs485 => Rs485::TAIL,
     }
 }

@@ -12,17 +12,17 @@ use crate::double::double;
 use crate::double::doubled_length;
 use crate::double::put;
 use crate::start::carries;
-use crate::start::escape;
 use crate::start::row_of;
 use crate::start::start_byte;
-use crate::start::tail;
 use message::Message;
 use message::Refusal;
 use message::Verdict;
 use message::WriteAnswer;
 use serial::SerialLink;
+use serial_head::escape;
 use serial_head::head_length;
 use serial_head::source_legal;
+use serial_head::tail;
 
 // Writes a message with its payload as a frame to the start of out.
 pub fn write(link: SerialLink, message: Message, payload: &[u8], out: &mut [u8]) -> WriteAnswer
@@ -55,8 +55,8 @@ fn frame_length(link: SerialLink, message: Message, payload: &[u8]) -> usize
     ensures { λ r. ⌜ r ≡ length (frameBytes link message (now (payload .entry))) ⌝ }
 {
     let fields = fields_length(link, message);
-    let error = error_bytes_length(message);
-    4 + fields + error + doubled_length(payload)
+    let error = error_bytes_length(link, message);
+    4 + fields + error + doubled_length(link, payload)
 }
 
 // How many bytes the fields in front of the data take: at most three, each doubled.
@@ -68,15 +68,15 @@ fn fields_length(link: SerialLink, message: Message) -> usize
     if fields == 0 {
         return 0;
     }
-    let id = byte_length(message.id);
+    let id = byte_length(link, message.id);
     if fields == 1 {
         return id;
     }
-    id + byte_length(message.source) + byte_length(message.destination)
+    id + byte_length(link, message.source) + byte_length(link, message.destination)
 }
 
 // How many bytes tell the error: at most two, each doubled.
-fn error_bytes_length(message: Message) -> usize
+fn error_bytes_length(link: SerialLink, message: Message) -> usize
     ensures { λ r. ⌜ (r ≡ length (doubled (errorBytes message))) × (r ≤ 4) ⌝ }
 {
     let kind = message.kind;
@@ -85,11 +85,11 @@ fn error_bytes_length(message: Message) -> usize
         return 0;
     }
     let error = message.error;
-    let first = byte_length(fields::error_number(error));
+    let first = byte_length(link, fields::error_number(error));
     if tells == 1 {
         return first;
     }
-    first + byte_length(message.index)
+    first + byte_length(link, message.index)
 }
 
 // Puts the whole frame over the start of out, which has room for it, and gives its length.
@@ -103,8 +103,8 @@ fn put_frame(link: SerialLink, message: Message, payload: &[u8], out: &mut [u8])
     out[0] = esc;
     out[1] = start_byte(link, row_of(kind));
     let error = put_fields(link, message, out, 2);
-    let data = put_error(message, out, error);
-    let end = double(payload, out, data);
+    let data = put_error(link, message, out, error);
+    let end = double(link, payload, out, data);
     out[end] = esc;
     out[end + 1] = tail(link);
     end + 2
@@ -122,15 +122,15 @@ fn put_fields(link: SerialLink, message: Message, out: &mut [u8], at: usize) -> 
         return at;
     }
     if fields == 1 {
-        return put(message.id, out, at);
+        return put(link, message.id, out, at);
     }
-    let source = put(message.id, out, at);
-    let destination = put(message.source, out, source);
-    put(message.destination, out, destination)
+    let source = put(link, message.id, out, at);
+    let destination = put(link, message.source, out, source);
+    put(link, message.destination, out, destination)
 }
 
 // Puts what tells the error, and gives the place behind it.
-fn put_error(message: Message, out: &mut [u8], at: usize) -> usize
+fn put_error(link: SerialLink, message: Message, out: &mut [u8], at: usize) -> usize
     requires { ⌜ at + length (doubled (errorBytes message)) ≤ length (now out) ⌝ }
     ensures { λ r. ⌜ r ≡ at + length (doubled (errorBytes message)) ⌝ }
     ensures { λ _. ⌜ now (out .exit) ≡ sets (now (out .entry)) at (doubled (errorBytes message)) ⌝ }
@@ -143,8 +143,8 @@ fn put_error(message: Message, out: &mut [u8], at: usize) -> usize
     let error = message.error;
     let number = fields::error_number(error);
     if tells == 1 {
-        return put(number, out, at);
+        return put(link, number, out, at);
     }
-    let index = put(number, out, at);
-    put(message.index, out, index)
+    let index = put(link, number, out, at);
+    put(link, message.index, out, index)
 }

@@ -1,4 +1,4 @@
-// Byte stuffing on the serial links: the marks of UART and RS485, and the scan of a frame with doubled ESC.
+// Byte stuffing on the serial links: the control bytes of UART and RS485, and the scan of a frame with doubled ESC.
 //
 // Doubling, and the scan that undoes it, are definitions of `specs/Stuffing.antt`.
 mod scanner;

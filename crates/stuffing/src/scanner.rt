@@ -1,4 +1,4 @@
-// The one scanner of frames: the reader and the listing both use it.
+// The one scanner of frames: the reader and the listing both use it. Both links have the same ESC and tail.
 ghost use Prim.Native.Nat.{_+_};
 ghost use mathlib.Core.Path.{_≡_};
 ghost use lib.ListN.{length, drop};
@@ -20,33 +20,24 @@ pub fn scan(bytes: &[u8], from: usize) -> Scanned
             continue;
         }
         if at + 1 == bytes.len() {
-            return Scanned {
-                stop: Stop::Cut,
-                end: at,
-                count,
-            };
+            return scanned(Stop::Cut, at, count);
         }
         let next = bytes[at + 1];
         if next == Uart::TAIL {
-            return Scanned {
-                stop: Stop::Ended,
-                end: at + 2,
-                count,
-            };
+            return scanned(Stop::Ended, at + 2, count);
         }
         if next != Uart::ESC {
-            return Scanned {
-                stop: Stop::Broken,
-                end: at,
-                count,
-            };
+            return scanned(Stop::Broken, at, count);
         }
         at += 2;
         count += 1;
     }
-    Scanned {
-        stop: Stop::Cut,
-        end: at,
-        count,
-    }
+    scanned(Stop::Cut, at, count)
+}
+
+// What a scan that stops has found.
+fn scanned(stop: Stop, end: usize, count: usize) -> Scanned
+    ensures { λ r. ⌜ (r .stop ≡ stop) × (r .end ≡ end) × (r .count ≡ count) ⌝ }
+{
+    Scanned { stop, end, count }
 }

@@ -4,7 +4,7 @@ use borrow.Author.Needs.{needs}
 use denote.Ref.{now}
 use Rattle.digits.specs.Numbers.{decimal}
 use Rattle.listing.specs.Lines.{text, spaced}
-use Rattle.listing.proofs.Puts.{put-more}
+use Rattle.message.proofs.Stores.{put-more}
 use Rattle.lister.proofs.line.put_field.Statement.{statement}
 use Rattle.lister.proofs.line.put_field.Tie as tie
 

@@ -5,7 +5,8 @@ use borrow.Author.Needs.{needs}
 use denote.Ref.{now}
 use Rattle.digits.specs.Numbers.{decimal}
 use Rattle.listing.specs.Lines.{text, nameText, fieldText, spaced, lineText}
-use Rattle.listing.proofs.Puts.{put-more, line-size}
+use Rattle.message.proofs.Stores.{put-more}
+use Rattle.listing.proofs.Puts.{line-size}
 use Rattle.lister.proofs.line.put_line.Statement.{statement}
 use Rattle.lister.proofs.line.put_line.Tie as tie
 

@@ -5,7 +5,7 @@ use borrow.Author.Needs.{needs}
 use denote.Ref.{now}
 use lib.Seq.{length-take-le}
 use Rattle.listing.specs.Lines.{text, nameText, spaced}
-use Rattle.listing.proofs.Puts.{put-more}
+use Rattle.message.proofs.Stores.{put-more}
 use Rattle.lister.proofs.line.put_name.Statement.{statement}
 use Rattle.lister.proofs.line.put_name.Tie as tie
 

@@ -14,13 +14,16 @@ returns c = rw (lt-leb _ _ (c .if1 .taken)) (refl, refl)
 shared-slice-read-if2 : tie.Need-shared-slice-read-if2
 shared-slice-read-if2 c = search needs
 
+escape-requires : tie.Need-escape-requires
+escape-requires c κs = search needs
+
 returns-2 : tie.Need-returns-2
 unfolding frameRead require after within counted laid readTold
-returns-2 c = rw (le-leb _ _ (c .before .before .if1 .left), ne-eqb _ _ (c .if2 .taken)) (refl, refl)
+returns-2 c = rw (le-leb _ _ (c .before .before .before .if1 .left), ne-eqb _ _ (rw (c .before .escape .ensures) at (c .if2 .taken))) (refl, refl)
 
 returns-3 : tie.Need-returns-3
 unfolding frameRead require after within counted laid readTold
-returns-3 c = rw (le-leb _ _ (c .before .before .before .if1 .left), eq-eqb _ _ (c .before .if2 .left), lt-leb _ _ (c .if3 .taken)) (refl, refl)
+returns-3 c = rw (le-leb _ _ (c .before .before .before .before .if1 .left), eq-eqb _ _ (rw (c .before .before .escape .ensures) at (c .before .if2 .left)), lt-leb _ _ (c .if3 .taken)) (refl, refl)
 
 shared-slice-read-start-row : tie.Need-shared-slice-read-start-row
 shared-slice-read-start-row c = search needs
@@ -39,14 +42,14 @@ read-started-requires c κs = search needs
 
 returns-4 : tie.Need-returns-4
 unfolding frameRead require after within counted laid readTold started
-returns-4 c = rw (le-leb _ _ (c .before .before .before .before .before .before .before .if1 .left), eq-eqb _ _ (c .before .before .before .before .before .if2 .left), le-leb _ _ (c .before .before .before .before .if3 .left), ← c .before .before .start-row .ensures, c .enum-told .given .1) (refl, refl)
+returns-4 c = rw (le-leb _ _ (c .before .before .before .before .before .before .before .before .if1 .left), eq-eqb _ _ (rw (c .before .before .before .before .before .before .escape .ensures) at (c .before .before .before .before .before .if2 .left)), le-leb _ _ (c .before .before .before .before .if3 .left), ← c .before .before .start-row .ensures, c .enum-told .given .1) (refl, refl)
 
 same-length : tie.Need-same-length
 same-length c = c .before .before .read-started .kept .1 .1 .1 .0
 
 returns-5 : tie.Need-returns-5
 unfolding frameRead require after started
-returns-5 c = rw (le-leb _ _ (c .before .before .before .before .before .before .before .before .before .before .before .before .if1 .left), eq-eqb _ _ (c .before .before .before .before .before .before .before .before .before .before .if2 .left), le-leb _ _ (c .before .before .before .before .before .before .before .before .before .if3 .left), ← c .before .before .before .before .before .before .before .start-row .ensures, c .before .before .before .before .before .row .given .1) (c .before .before .read-started .ensures)
+returns-5 c = rw (le-leb _ _ (c .before .before .before .before .before .before .before .before .before .before .before .before .before .if1 .left), eq-eqb _ _ (rw (c .before .before .before .before .before .before .before .before .before .before .before .escape .ensures) at (c .before .before .before .before .before .before .before .before .before .before .if2 .left)), le-leb _ _ (c .before .before .before .before .before .before .before .before .before .if3 .left), ← c .before .before .before .before .before .before .before .start-row .ensures, c .before .before .before .before .before .row .given .1) (c .before .before .read-started .ensures)
 
 pub read-spec : {M : Type 1} → statement M
 read-spec =
@@ -54,6 +57,7 @@ read-spec =
     (tie.spec
     returns
     shared-slice-read-if2
+    escape-requires
     returns-2
     returns-3
     shared-slice-read-start-row

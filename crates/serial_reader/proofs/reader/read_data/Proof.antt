@@ -108,7 +108,7 @@ returns-2 c =
     rw (data-refused (l .link) (l .kind) (l .id) (Source k) (Destination k) (l .head) (Body k) (k .carried .result) (same k) _ refuses) (refl, refl)
 
 same-length : tie.Need-same-length
-same-length c = c .before .before .read-payload .kept .1 .1 .1 .1 .0
+same-length c = c .before .before .read-payload .kept .1 .1 .1 .1 .1 .0
 
 returns-3 : tie.Need-returns-3
 unfolding verdictTold

@@ -31,7 +31,7 @@ undouble-requires c κs =
     (k .1 ∙ p .0, rw (k .0, length-drop) (omega (arith, p .1 .0, c .before .before .if1 .left)))
 
 same-length : tie.Need-same-length
-same-length c = c .before .before .undouble .kept .1 .1 .0
+same-length c = c .before .before .undouble .kept .1 .1 .1 .0
 
 returns-2 : tie.Need-returns-2
 unfolding readTold counted laid

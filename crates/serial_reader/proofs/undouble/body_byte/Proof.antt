@@ -1,4 +1,4 @@
--- Carried by the law that a unit stands for its first byte, at the place i units behind.
+-- Carried by the law that an encoded byte stands for the first of its bytes, at the place i encoded bytes behind.
 use native.Mathlib.Omega.{arith}
 use mathlib.Core.Path.{sym}
 use denote.Ref.{now}

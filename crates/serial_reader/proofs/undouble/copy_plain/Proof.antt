@@ -7,18 +7,21 @@ use borrow.Author.Needs.{needs}
 use lib.ListN.{length, drop, length-set}
 use lib.Seq.{sets}
 use Rattle.stuffing.specs.Stuffing.{scan}
-use Rattle.serial_reader.proofs.Undoubling.{Storing, store-unit, ended-inside, ended-next, plain-unit}
+use Rattle.serial_reader.proofs.Undoubling.{Storing, store-byte, ended-inside, ended-next, plain-byte}
 use Rattle.serial_reader.proofs.undouble.copy_plain.Statement.{statement}
 use Rattle.serial_reader.proofs.undouble.copy_plain.Tie as tie
 
 abbrev Inv-loop : tie.InvT-loop
-Inv-loop bytes from out₀ to n₀ out n = (from + n < length bytes) × (length out ≡ length out₀) × Storing bytes (sets out₀ to (scan (drop from bytes) .body)) out (from + n) (to + n)
+Inv-loop bytes from out₀ to esc n₀ out n = (from + n < length bytes) × (length out ≡ length out₀) × Storing bytes (sets out₀ to (scan (drop from bytes) .body)) out (from + n) (to + n)
 
 abbrev μ-loop : tie.MeasureT-loop
-μ-loop bytes from out₀ to n₀ out n = length bytes - (from + n)
+μ-loop bytes from out₀ to esc n₀ out n = length bytes - (from + n)
+
+escape-requires : tie.Need-escape-requires Inv-loop μ-loop
+escape-requires c κs = search needs
 
 loop-holds : tie.Need-loop-holds Inv-loop μ-loop
-loop-holds c = rw (add-zero (c .args .from), add-zero (c .args .to)) (ended-inside _ _ (c .pre .0), refl, (c .pre .0, c .pre .1, refl))
+loop-holds c = rw (add-zero (c .before .before .before .args .from), add-zero (c .before .before .before .args .to)) (ended-inside _ _ (c .before .before .before .pre .0), refl, (c .before .before .before .pre .0, c .before .before .before .pre .1, refl))
 
 add-byte : tie.Need-add-byte Inv-loop μ-loop
 add-byte c = search needs
@@ -32,13 +35,13 @@ same-length c = search needs
 returns : tie.Need-returns Inv-loop μ-loop
 returns c =
     let s = c .before .before .loop .inv .2 in
-    (ended-next _ _ (s .0) (c .if1 .taken), c .if1 .taken, s .0, s .1, s .2)
+    (ended-next _ _ (s .0) (rw (c .before .before .before .escape .ensures) at (c .if1 .taken)), (rw (c .before .before .before .escape .ensures) at (c .if1 .taken)), s .0, s .1, s .2)
 
 slice-write-out : tie.Need-slice-write-out Inv-loop μ-loop
 slice-write-out c =
     let l = c .before .before .loop in
-    let a = c .before .before .before .args in
-    store-unit _ _ (l .out) (a .from + l .n) 1 (a .to + l .n) (l .inv .2) (plain-unit _ _ (l .inv .0) (c .if1 .left)) .0
+    let a = c .before .before .before .before .before .before .args in
+    store-byte _ _ (l .out) (a .from + l .n) 1 (a .to + l .n) (l .inv .2) (plain-byte _ _ (l .inv .0) (rw (c .before .before .before .escape .ensures) at (c .if1 .left))) .0
 
 add-out : tie.Need-add-out Inv-loop μ-loop
 add-out c = omega (arith, slice-write-out c)
@@ -52,8 +55,8 @@ loop-less c = search needs
 loop-again : tie.Need-loop-again Inv-loop μ-loop
 loop-again c =
     let l = c .before .before .loop in
-    let a = c .before .before .before .args in
-    let h = store-unit _ _ (l .out) (a .from + l .n) 1 (a .to + l .n) (l .inv .2) (plain-unit _ _ (l .inv .0) (c .if1 .left)) in
+    let a = c .before .before .before .before .before .before .args in
+    let h = store-byte _ _ (l .out) (a .from + l .n) 1 (a .to + l .n) (l .inv .2) (plain-byte _ _ (l .inv .0) (rw (c .before .before .before .escape .ensures) at (c .if1 .left))) in
     let at : a .from + (l .n + 1) ≡ a .from + l .n + 1 = omega arith in
     let to : a .to + (l .n + 1) ≡ a .to + l .n + 1 = omega arith in
     rw (at, to) (ended-inside _ _ (h .1 .0), rw length-set (l .inv .1), h .1)
@@ -64,6 +67,7 @@ copy-plain-spec =
     (tie.spec
     Inv-loop
     μ-loop
+    escape-requires
     loop-holds
     add-byte
     shared-slice-read-byte

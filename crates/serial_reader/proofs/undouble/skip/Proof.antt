@@ -1,4 +1,4 @@
--- Carried by the steps of a scan: before a turn `at` stands i units behind `from`.
+-- Carried by the steps of a scan: before a turn `at` stands i encoded bytes behind `from`.
 use Prim.Native.Nat.{_≤_, _-_}
 use mathlib.Core.Path.{_≡_}
 use borrow.Author.Needs.{needs}
@@ -8,10 +8,13 @@ use Rattle.serial_reader.proofs.undouble.skip.Statement.{statement}
 use Rattle.serial_reader.proofs.undouble.skip.Tie as tie
 
 abbrev Inv-loop : tie.InvT-loop
-Inv-loop bytes from n at₀ i₀ at i = (i ≤ n) × Behind bytes from i at
+Inv-loop bytes from n esc at₀ i₀ at i = (i ≤ n) × Behind bytes from i at
 
 abbrev μ-loop : tie.MeasureT-loop
-μ-loop bytes from n at₀ i₀ at i = n - i
+μ-loop bytes from n esc at₀ i₀ at i = n - i
+
+escape-requires : tie.Need-escape-requires Inv-loop μ-loop
+escape-requires c κs = search needs
 
 loop-holds : tie.Need-loop-holds Inv-loop μ-loop
 loop-holds c = search needs
@@ -24,7 +27,7 @@ shared-slice-read-if1 c =
 add-at : tie.Need-add-at Inv-loop μ-loop
 add-at c =
     let l = c .before .before .before .loop in
-    omega (arith, behind-doubled _ _ (l .i) (l .at) (l .inv .1) (omega arith) (c .if1 .taken) .0)
+    omega (arith, behind-doubled _ _ (l .i) (l .at) (l .inv .1) (omega arith) (rw (c .before .before .before .before .escape .ensures) at (c .if1 .taken)) .0)
 
 add-i : tie.Need-add-i Inv-loop μ-loop
 add-i c = search needs
@@ -35,7 +38,7 @@ loop-less c = search needs
 loop-again : tie.Need-loop-again Inv-loop μ-loop
 loop-again c =
     let l = c .before .before .before .loop in
-    (omega arith, behind-doubled _ _ (l .i) (l .at) (l .inv .1) (omega arith) (c .if1 .taken) .1)
+    (omega arith, behind-doubled _ _ (l .i) (l .at) (l .inv .1) (omega arith) (rw (c .before .before .before .before .escape .ensures) at (c .if1 .taken)) .1)
 
 add-at-2 : tie.Need-add-at-2 Inv-loop μ-loop
 add-at-2 c =
@@ -51,12 +54,12 @@ loop-less-2 c = search needs
 loop-again-2 : tie.Need-loop-again-2 Inv-loop μ-loop
 loop-again-2 c =
     let l = c .before .before .before .loop in
-    (omega arith, behind-plain _ _ (l .i) (l .at) (l .inv .1) (omega arith) (c .if1 .left))
+    (omega arith, behind-plain _ _ (l .i) (l .at) (l .inv .1) (omega arith) (rw (c .before .before .before .before .escape .ensures) at (c .if1 .left)))
 
 returns : tie.Need-returns Inv-loop μ-loop
 returns c =
     let l = c .before .loop in
-    let e : l .i ≡ c .before .before .args .n = omega arith in
+    let e : l .i ≡ c .before .before .before .before .args .n = omega arith in
     rw e at (l .inv .1)
 
 pub skip-spec : {M : Type 1} → statement M
@@ -65,6 +68,7 @@ skip-spec =
     (tie.spec
     Inv-loop
     μ-loop
+    escape-requires
     loop-holds
     shared-slice-read-if1
     add-at

@@ -1,6 +1,6 @@
 -- Carried by the steps of a scan: before a turn the rest of the body, stored from `to` on, makes the output whole.
 use Prim.Native.Nat.{_+_, _-_}
-use mathlib.Core.Path.{_≡_, refl, _∙_}
+use mathlib.Core.Path.{_≡_, refl, sym, _∙_}
 use native.Mathlib.Omega.{arith}
 use borrow.Author.Needs.{needs}
 use denote.Ref.{now}
@@ -13,13 +13,23 @@ use Rattle.serial_reader.proofs.undouble.undouble.Statement.{statement}
 use Rattle.serial_reader.proofs.undouble.undouble.Tie as tie
 
 abbrev Inv-loop : tie.InvT-loop
-Inv-loop bytes from out₀ at₀ to₀ out at to = (length out ≡ length out₀) × Storing bytes (sets out₀ 0 (scan (drop from bytes) .body)) out at to
+Inv-loop link bytes from out₀ esc last at₀ to₀ out at to = (length out ≡ length out₀) × Storing bytes (sets out₀ 0 (scan (drop from bytes) .body)) out at to
 
 abbrev μ-loop : tie.MeasureT-loop
-μ-loop bytes from out₀ at₀ to₀ out at to = length bytes - at
+μ-loop link bytes from out₀ esc last at₀ to₀ out at to = length bytes - at
+
+escape-requires : tie.Need-escape-requires Inv-loop μ-loop
+escape-requires c κs = search needs
+
+tail-requires : tie.Need-tail-requires Inv-loop μ-loop
+tail-requires c κs = search needs
+
+-- What is left to store behind the plain bytes that a turn copied.
+left : (c : tie.After-copy-plain Inv-loop μ-loop) → let a = c .before .before .before .before .before .before .before .args in let l = c .before .before .loop in let n = c .copy-plain .result in Storing (now (a .bytes)) (sets (now (a .out)) 0 (scan (drop (a .from) (now (a .bytes))) .body)) (c .copy-plain .last .1 .1 .1 .0) (l .at + n) (l .to + n)
+left c = let e = c .copy-plain .ensures in (e .2, e .3, cc)
 
 loop-holds : tie.Need-loop-holds Inv-loop μ-loop
-loop-holds c = (refl, (c .before .before .pre .0, omega arith, refl))
+loop-holds c = (refl, (c .before .before .before .before .pre .0, omega arith, refl))
 
 copy-plain-requires : tie.Need-copy-plain-requires Inv-loop μ-loop
 copy-plain-requires c κs = (c .before .loop .inv .1 .0, c .before .loop .inv .1 .1)
@@ -41,20 +51,19 @@ same-length c = search needs
 
 returns : tie.Need-returns Inv-loop μ-loop
 returns c =
-    let a = c .before .before .before .before .before .before .before .before .before .args in
-    let l = c .before .before .before .before .before .before .loop in
-    let p = c .before .before .before .before .copy-plain in
-    let e = p .ensures in
-    store-tail (now (a .bytes)) _ (p .last .1 .1 .0) (l .at + p .result) (l .to + p .result) (e .2, e .3, e .4 ∙ l .inv .1 .2) (e .1) (c .if1 .taken)
+    let a = c .before .before .before .before .before .before .before .before .before .before .before .args in
+    let k = c .before .before .before .before in
+    let l = k .before .before .loop in
+    let n = k .copy-plain .result in
+    store-tail (now (k .before .before .before .before .before .before .before .args .bytes)) _ (k .copy-plain .last .1 .1 .1 .0) (l .at + n) (l .to + n) (left k) (k .copy-plain .ensures .1) (c .if1 .taken ∙ c .before .before .before .before .before .before .before .tail .ensures)
     ∙ sets-start (scan (drop (a .from) (now (a .bytes))) .body) (now (a .out)) (omega arith)
 
 slice-write-out : tie.Need-slice-write-out Inv-loop μ-loop
 slice-write-out c =
-    let a = c .before .before .before .before .before .before .before .before .before .args in
-    let l = c .before .before .before .before .before .before .loop in
-    let p = c .before .before .before .before .copy-plain in
-    let e = p .ensures in
-    store-doubled (now (a .bytes)) _ (p .last .1 .1 .0) (l .at + p .result) (l .to + p .result) (e .2, e .3, e .4 ∙ l .inv .1 .2) (e .1) (c .if1 .left) .0
+    let k = c .before .before .before .before in
+    let l = k .before .before .loop in
+    let n = k .copy-plain .result in
+    store-doubled (now (k .before .before .before .before .before .before .before .args .bytes)) _ (k .copy-plain .last .1 .1 .1 .0) (l .at + n) (l .to + n) (left k) (k .copy-plain .ensures .1) (λ q. c .if1 .left (q ∙ sym (c .before .before .before .before .before .before .before .tail .ensures))) .0
 
 add-at-2 : tie.Need-add-at-2 Inv-loop μ-loop
 add-at-2 c = search needs
@@ -67,11 +76,11 @@ loop-less c = search needs
 
 loop-again : tie.Need-loop-again Inv-loop μ-loop
 loop-again c =
-    let a = c .before .before .before .before .before .before .before .before .before .args in
-    let l = c .before .before .before .before .before .before .loop in
-    let p = c .before .before .before .before .copy-plain in
-    let e = p .ensures in
-    (rw length-set (search needs), store-doubled (now (a .bytes)) _ (p .last .1 .1 .0) (l .at + p .result) (l .to + p .result) (e .2, e .3, e .4 ∙ l .inv .1 .2) (e .1) (c .if1 .left) .1)
+    let k = c .before .before .before .before in
+    let l = k .before .before .loop in
+    let n = k .copy-plain .result in
+    let h = store-doubled (now (k .before .before .before .before .before .before .before .args .bytes)) _ (k .copy-plain .last .1 .1 .1 .0) (l .at + n) (l .to + n) (left k) (k .copy-plain .ensures .1) (λ q. c .if1 .left (q ∙ sym (c .before .before .before .before .before .before .before .tail .ensures))) in
+    (rw length-set (search needs), rw (c .before .before .before .before .before .before .before .before .escape .ensures) (h .1))
 
 pub undouble-spec : {M : Type 1} → statement M
 undouble-spec =
@@ -79,6 +88,8 @@ undouble-spec =
     (tie.spec
     Inv-loop
     μ-loop
+    escape-requires
+    tail-requires
     loop-holds
     copy-plain-requires
     add-at

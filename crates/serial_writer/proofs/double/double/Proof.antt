@@ -13,14 +13,14 @@ use Rattle.serial_writer.proofs.double.double.Statement.{statement}
 use Rattle.serial_writer.proofs.double.double.Tie as tie
 
 abbrev Inv-loop : tie.InvT-loop
-Inv-loop bytes out₀ at next₀ i₀ out next i =
+Inv-loop link bytes out₀ at next₀ i₀ out next i =
     (i ≤ length bytes)
     × (length out ≡ length out₀)
     × (next + length (doubled (drop i bytes)) ≡ at + length (doubled bytes))
     × (sets out next (doubled (drop i bytes)) ≡ sets out₀ at (doubled bytes))
 
 abbrev μ-loop : tie.MeasureT-loop
-μ-loop bytes out₀ at next₀ i₀ out next i = length bytes - i
+μ-loop link bytes out₀ at next₀ i₀ out next i = length bytes - i
 
 loop-holds : tie.Need-loop-holds Inv-loop μ-loop
 loop-holds c = search needs
@@ -46,7 +46,7 @@ loop-again c =
     let p = c .before .before .put in
     let h = c .before .before .before .before .before .loop-test .taken in (
       omega arith,
-      p .kept .1 .0 ∙ l .inv .1,
+      p .kept .1 .1 .0 ∙ l .inv .1,
       omega (arith, length-step s (l .i) h),
       rw (p .ensures .0, p .ensures .1, sets-append, ← doubled-step s (l .i) h) (l .inv .3),
     )

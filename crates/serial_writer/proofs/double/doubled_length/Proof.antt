@@ -11,10 +11,10 @@ use Rattle.serial_writer.proofs.double.doubled_length.Statement.{statem
 use Rattle.serial_writer.proofs.double.doubled_length.Tie as tie
 
 abbrev Inv-loop : tie.InvT-loop
-Inv-loop bytes n₀ i₀ n i = (i ≤ length bytes) × (n + length (doubled (drop i bytes)) ≡ length (doubled bytes))
+Inv-loop link bytes n₀ i₀ n i = (i ≤ length bytes) × (n + length (doubled (drop i bytes)) ≡ length (doubled bytes))
 
 abbrev μ-loop : tie.MeasureT-loop
-μ-loop bytes n₀ i₀ n i = length bytes - i
+μ-loop link bytes n₀ i₀ n i = length bytes - i
 
 loop-holds : tie.Need-loop-holds Inv-loop μ-loop
 loop-holds c = search needs

@@ -9,7 +9,7 @@ use lib.ListN.{length}
 use Rattle.message.specs.Body.{errorBytes}
 use Rattle.stuffing.specs.Stuffing.{doubled}
 use Rattle.stuffing.proofs.Doubling.{length-first}
-use Rattle.serial_writer.proofs.Putting.{put-more}
+use Rattle.serial_writer.proofs.Putting.{put-doubled}
 use Rattle.serial_writer.proofs.Writing.{error-none, error-one, error-all}
 use Rattle.serial_writer.proofs.writer.put_error.Statement.{statement}
 use Rattle.serial_writer.proofs.writer.put_error.Tie as tie
@@ -47,7 +47,7 @@ put-requires-2 : tie.Need-put-requires-2
 put-requires-2 c κs = omega (arith, room (c .before))
 
 put-requires-3 : tie.Need-put-requires-3
-put-requires-3 c κs = omega (arith, room (c .before .before .before .before .before), c .before .before .before .put2 .ensures .0, c .before .before .before .put2 .kept .1 .0)
+put-requires-3 c κs = omega (arith, room (c .before .before .before .before .before), c .before .before .before .put2 .ensures .0, c .before .before .before .put2 .kept .1 .1 .0)
 
 same-length-2 : tie.Need-same-length-2
 same-length-2 c = search needs
@@ -55,7 +55,7 @@ same-length-2 c = search needs
 returns-3 : tie.Need-returns-3
 returns-3 c =
     rw (all (c .before .before .before .before .before .before .before .before))
-    (put-more (c .before .before .before .before .before .before .before .before .before .error-number .result ∷ []) (c .before .before .before .before .before .before .before .before .before .before .before .before .before .args .message .index ∷ []) _ _ _ _ _ _ (c .before .before .before .before .before .before .put2 .ensures) (c .before .before .put3 .ensures))
+    (put-doubled (c .before .before .before .before .before .before .before .before .before .error-number .result ∷ []) (c .before .before .before .before .before .before .before .before .before .before .before .before .before .args .message .index ∷ []) _ _ _ _ _ _ (c .before .before .before .before .before .before .put2 .ensures) (c .before .before .put3 .ensures))
 
 pub put-error-spec : {M : Type 1} → statement M
 put-error-spec =

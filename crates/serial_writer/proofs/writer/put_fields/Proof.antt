@@ -9,7 +9,7 @@ use lib.ListN.{length}
 use Rattle.stuffing.specs.Stuffing.{doubled}
 use Rattle.serial.specs.Frames.{rowOf, headFields}
 use Rattle.stuffing.proofs.Doubling.{length-first}
-use Rattle.serial_writer.proofs.Putting.{put-more}
+use Rattle.serial_writer.proofs.Putting.{put-doubled}
 use Rattle.serial_writer.proofs.Writing.{fields-none, fields-one, fields-all}
 use Rattle.serial_writer.proofs.writer.put_fields.Statement.{statement}
 use Rattle.serial_writer.proofs.writer.put_fields.Tie as tie
@@ -49,10 +49,10 @@ put-requires-2 : tie.Need-put-requires-2
 put-requires-2 c κs = omega (arith, room (c .before))
 
 put-requires-3 : tie.Need-put-requires-3
-put-requires-3 c κs = omega (arith, room (c .before .before .before .before .before), c .before .before .before .put2 .ensures .0, c .before .before .before .put2 .kept .1 .0)
+put-requires-3 c κs = omega (arith, room (c .before .before .before .before .before), c .before .before .before .put2 .ensures .0, c .before .before .before .put2 .kept .1 .1 .0)
 
 put-requires-4 : tie.Need-put-requires-4
-put-requires-4 c κs = omega (arith, room (c .before .before .before .before .before .before .before .before .before), c .before .before .before .put3 .ensures .0, c .before .before .before .put3 .kept .1 .0, c .before .before .before .before .before .before .before .put2 .ensures .0, c .before .before .before .before .before .before .before .put2 .kept .1 .0)
+put-requires-4 c κs = omega (arith, room (c .before .before .before .before .before .before .before .before .before), c .before .before .before .put3 .ensures .0, c .before .before .before .put3 .kept .1 .1 .0, c .before .before .before .before .before .before .before .put2 .ensures .0, c .before .before .before .before .before .before .before .put2 .kept .1 .1 .0)
 
 same-length-2 : tie.Need-same-length-2
 same-length-2 c = search needs
@@ -61,8 +61,8 @@ returns-3 : tie.Need-returns-3
 returns-3 c =
     let m = c .before .before .before .before .before .before .before .before .before .before .before .before .before .before .before .before .before .args .message in
     rw (all (c .before .before .before .before .before .before .before .before .before .before .before .before))
-    (put-more (m .id ∷ m .source ∷ []) (m .destination ∷ []) _ _ _ _ _ _
-    (put-more (m .id ∷ []) (m .source ∷ []) _ _ _ _ _ _ (c .before .before .before .before .before .before .before .before .before .before .put2 .ensures) (c .before .before .before .before .before .before .put3 .ensures)) (c .before .before .put4 .ensures))
+    (put-doubled (m .id ∷ m .source ∷ []) (m .destination ∷ []) _ _ _ _ _ _
+    (put-doubled (m .id ∷ []) (m .source ∷ []) _ _ _ _ _ _ (c .before .before .before .before .before .before .before .before .before .before .put2 .ensures) (c .before .before .before .before .before .before .put3 .ensures)) (c .before .before .put4 .ensures))
 
 pub put-fields-spec : {M : Type 1} → statement M
 put-fields-spec =

@@ -17,7 +17,7 @@ room : (c : tie.Start) → let m = c .args .message in 4 + length (doubled (head
 room c = rw (frame-size (c .args .link) (c .args .message) (now (c .args .payload))) at (c .pre)
 
 -- What is stored once the payload is put: all but the tail.
-stored : (c : tie.After-slice-known4) → let a = c .before .before .before .before .before .before .before .before .before .before .before .before .before .before .before .before .before .args in Stored (frameBytes (a .link) (a .message) (now (a .payload))) (now (a .out)) (c .before .before .double .last .1 .0) (c .before .before .double .result)
+stored : (c : tie.After-slice-known4) → let a = c .before .before .before .before .before .before .before .before .before .before .before .before .before .before .before .before .before .args in Stored (frameBytes (a .link) (a .message) (now (a .payload))) (now (a .out)) (c .before .before .double .last .1 .1 .0) (c .before .before .double .result)
 stored c =
     let a = c .before .before .before .before .before .before .before .before .before .before .before .before .before .before .before .before .before .args in
     frame-stored (a .link) (a .message) (now (a .payload)) (now (a .out)) _ _ _ _ _ _
@@ -47,7 +47,7 @@ put-error-requires : tie.Need-put-error-requires
 put-error-requires c κs = omega (arith, room (c .before .before .before .before .before .before .before .before .before .before), c .before .before .before .put-fields .ensures .0, simp length-set at (c .before .before .before .put-fields .kept .1 .1 .0))
 
 double-requires : tie.Need-double-requires
-double-requires c κs = omega (arith, room (c .before .before .before .before .before .before .before .before .before .before .before .before .before .before), c .before .before .before .before .before .before .before .put-fields .ensures .0, simp length-set at (c .before .before .before .before .before .before .before .put-fields .kept .1 .1 .0), c .before .before .before .put-error .ensures .0, c .before .before .before .put-error .kept .1 .0)
+double-requires c κs = omega (arith, room (c .before .before .before .before .before .before .before .before .before .before .before .before .before .before), c .before .before .before .before .before .before .before .put-fields .ensures .0, simp length-set at (c .before .before .before .before .before .before .before .put-fields .kept .1 .1 .0), c .before .before .before .put-error .ensures .0, c .before .before .before .put-error .kept .1 .1 .0)
 
 slice-write-out-3 : tie.Need-slice-write-out-3
 slice-write-out-3 c = omega (arith, stored c, c .before .before .before .before .before .before .before .before .before .before .before .before .before .before .before .before .before .pre)
