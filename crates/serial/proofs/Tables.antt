@@ -17,9 +17,7 @@ use Rattle.message.specs.declared.Message.{Message}
 use Rattle.message.proofs.Checks.{both-true, plain-writable, writable-plain}
 use Rattle.message.proofs.Tables.{by-row}
 use Rattle.serial.specs.Frames.{startByte, startRow, rowOf, byId, kindOf, headLength, idField, addressField, carries, headFields, addressed}
-use Rattle.serial.specs.declared.IdKind.{IdKind}
 use Rattle.serial.specs.declared.IdKind.the-variants as IdKind·of
-use Rattle.serial.specs.declared.StartRow.{StartRow}
 use Rattle.serial.specs.declared.StartRow.the-variants as StartRow·of
 use Rattle.serial.specs.declared.Row.{Row}
 use Rattle.serial.specs.declared.Row.the-variants.{Request, Reply, Nack, Event}
