@@ -1,7 +1,7 @@
 -- What a line says is what the reader says of that frame alone: a complete frame is found whole, whatever follows it, since a doubled body
 -- scans to its own tail.
 use Prim.Native.Nat.{ℕ, _+_, _≤_}
-use mathlib.Core.Bool.{false}
+use mathlib.Core.Bool.{false, true}
 use mathlib.Core.List.{List, [], _∷_, _++_, append-assoc, append-nil}
 use mathlib.Core.Path.{_≡_, refl, ap, _∙_}
 use native.Mathlib.Omega.{arith}
