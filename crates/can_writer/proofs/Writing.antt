@@ -2,10 +2,9 @@
 use Prim.Native.Nat.{ℕ, zero, suc, _+_, _-_, _*_, _≤_, _<_}
 use mathlib.Core.List.{List, [], _∷_, _++_, append-assoc}
 use mathlib.Core.Path.{_≡_, refl, _∙_, sym, ap}
-use native.Mathlib.Numerals.{add-one}
 use native.Mathlib.Omega.{arith}
-use lib.ListN.{length, getD, set, take, drop, replicate, length-append, length-drop, drop-of-length-le}
-use lib.Seq.{sets, drop-cons, length-take-le, drop-drop}
+use lib.ListN.{length, set, take, drop, replicate, length-append, length-drop}
+use lib.Seq.{sets, length-take-le, drop-drop}
 use Rattle.message.specs.Answer.{given, written, writeTold, within, counted, laid}
 use Rattle.message.specs.declared.Refusal.the-variants.{OutputTooShort}
 use Rattle.message.specs.declared.WriteAnswer.the-variants.{Refused, Length}
@@ -14,16 +13,6 @@ use Rattle.message.proofs.Parts.{part-from}
 use Rattle.message.proofs.Stores.{sets-append, sets-start}
 use Rattle.can.specs.Can.{frame, series}
 use Rattle.can.proofs.Lengths.{frame-length}
-
--- A turn of a loop that stores `s` byte by byte, and its end.
-module _ (s out : List ℕ) (at i : ℕ) where
-  pub store-turn : i < length s → sets (set out (at + i) (getD s i 0)) (at + (i + 1)) (drop (i + 1) s) ≡ sets out (at + i) (drop i s)
-  store-turn h =
-      let next : at + suc i ≡ suc (at + i) = omega arith in
-      rw (add-one, drop-cons s i 0, next)
-
-  pub store-end : length s ≤ i → sets out (at + i) (drop i s) ≡ out
-  store-end h = rw (drop-of-length-le s h)
 
 module _ (i : List ℕ) (four : length i ≡ 4) where
   -- The head, the data and the zeros, each stored behind the last, are the frame.

@@ -21,13 +21,13 @@ use Rattle.message.proofs.Checks as checks
 use Rattle.can.specs.Can.{seriesType, identifier, inSeries, canBytes, canCarries, canWrite, allFrames, complete, canRead}
 use Rattle.can.proofs.Lengths.{identifier-length, frame-length, message-length, single-most}
 use Rattle.csp.specs.Csp.{cspHead, cspCarries, cspRead, cspWrite}
-use Rattle.serial.specs.Frames.{rowOf, headLength, headFields, sourceLegal, carries, frameBytes, frameRead, frameWrite}
+use Rattle.serial.specs.Frames.{rowOf, frontLength, frontFields, sourceLegal, carries, frameBytes, frameRead, frameWrite}
 use Rattle.serial.specs.declared.Row.{Row}
 use Rattle.serial.specs.declared.Row.the-variants as Row·of
 use Rattle.serial.specs.declared.SerialLink.{SerialLink}
 use Rattle.serial.specs.declared.SerialLink.the-variants as SerialLink·of
 use Rattle.stuffing.proofs.Doubling.{doubled-most}
-use Rattle.serial.proofs.Tables.{head-length-three, fields-length}
+use Rattle.serial.proofs.Tables.{front-length-three, fields-length}
 use Rattle.serial.proofs.Lengths.{frame-size}
 use Rattle.link.specs.Link.{linkRead, linkWrite, mostBytes}
 use Rattle.link.specs.declared.Link.{Link}
@@ -61,18 +61,18 @@ data-most c m p e =
 
 -- A serial frame: head and tail, and every byte between them at most twice.
 frame-most : (l : SerialLink) (m : Message) (p : List ℕ) → length (errorBytes m) + length p ≤ 256
-    → length (frameBytes l m p) ≤ 516 + headLength l (rowOf (m .kind)) + headLength l (rowOf (m .kind))
+    → length (frameBytes l m p) ≤ 516 + frontLength l (rowOf (m .kind)) + frontLength l (rowOf (m .kind))
 frame-most l m p h =
     let r = rowOf (m .kind) in
-    rw (frame-size l m p) (omega (arith, fields-length l r m, doubled-most (headFields l r m), doubled-most (errorBytes m), doubled-most p))
+    rw (frame-size l m p) (omega (arith, fields-length l r m, doubled-most (frontFields l r m), doubled-most (errorBytes m), doubled-most p))
 
-uart-head : (r : Row) → headLength SerialLink·of.Uart r ≤ 1
-uart-head Row·of.Request = omega arith
-uart-head Row·of.Reply = omega arith
-uart-head Row·of.Nack = omega arith
-uart-head Row·of.Event = omega arith
+uart-front : (r : Row) → frontLength SerialLink·of.Uart r ≤ 1
+uart-front Row·of.Request = omega arith
+uart-front Row·of.Reply = omega arith
+uart-front Row·of.Nack = omega arith
+uart-front Row·of.Event = omega arith
 
-serial-most : (l : SerialLink) (m : Message) (p b : List ℕ) → frameWrite l m p ≡ written b → length b ≤ 516 + headLength l (rowOf (m .kind)) + headLength l (rowOf (m .kind))
+serial-most : (l : SerialLink) (m : Message) (p b : List ℕ) → frameWrite l m p ≡ written b → length b ≤ 516 + frontLength l (rowOf (m .kind)) + frontLength l (rowOf (m .kind))
 unfolding frameWrite
 serial-most l m p b e =
     let w = after-passed (writeChecks (carries l) m (length p)) _ tt b e in
@@ -93,8 +93,8 @@ can-most m p h = by (inSeries (m .kind) (length p)) refl
 -- What writing gives is never longer than the link's bound.
 pub bytes-most : (l : Link) (m : Message) (p b : List ℕ) → linkWrite l m p ≡ written b → length b ≤ mostBytes l
 unfolding linkWrite canWrite cspWrite cspHead
-bytes-most Uart m p b e = omega (arith, serial-most SerialLink·of.Uart m p b e, uart-head (rowOf (m .kind)))
-bytes-most Rs485 m p b e = omega (arith, serial-most SerialLink·of.Rs485 m p b e, head-length-three SerialLink·of.Rs485 (rowOf (m .kind)))
+bytes-most Uart m p b e = omega (arith, serial-most SerialLink·of.Uart m p b e, uart-front (rowOf (m .kind)))
+bytes-most Rs485 m p b e = omega (arith, serial-most SerialLink·of.Rs485 m p b e, front-length-three SerialLink·of.Rs485 (rowOf (m .kind)))
 bytes-most Can m p b e =
     let g = after-given (writeChecks canCarries m (length p)) tt tt (canBytes m p) b e in
     rw (← g .2) (can-most m p (omega (arith, data-most canCarries m p (g .0))))

@@ -26,7 +26,7 @@ use Rattle.listing.specs.Lines.{kindText, fieldText, idOf, codeOf, line,
 use Rattle.listing.specs.Listing.{Found, nothing, frame, hunt, frameLength, said, frameLine, framed, lines, listing, longest}
 use Rattle.listing.specs.declared.Field.the-variants.{Number, Dash}
 use Rattle.listing.proofs.Limit.{listed-within, listed-past}
-use Rattle.listing.proofs.Puts.{line-size}
+use Rattle.listing.proofs.Sizes.{line-size}
 use Rattle.listing.proofs.Reading.{read-most, read-low}
 use Rattle.listing.proofs.Walks.{Within, hunt-within}
 

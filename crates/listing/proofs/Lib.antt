@@ -1,4 +1,4 @@
-pub mod Puts
+pub mod Sizes
 pub mod Reading
 pub mod Frames
 pub mod Walks

@@ -20,7 +20,7 @@ use Rattle.stuffing.specs.Stuffing.{doubled, Scan, stopped, scan, escaped, fram
 use Rattle.stuffing.specs.declared.Stop.the-variants.{Ended, Broken, Cut}
 use Rattle.serial.proofs.RoundTrip.{written-reads}
 use Rattle.serial.proofs.Tables.{row-of-start, written-row}
-use Rattle.serial.specs.Frames.{startByte, startRow, rowOf, sourceLegal, frameRead, carries, headFields, frameBytes, frameWrite}
+use Rattle.serial.specs.Frames.{startByte, startRow, rowOf, sourceLegal, frameRead, carries, frontFields, frameBytes, frameWrite}
 use Rattle.serial.specs.declared.Row.{Row}
 use Rattle.serial.specs.declared.SerialLink.the-variants.{Uart}
 use Rattle.serial.specs.declared.StartRow.the-variants.{Known, Unknown}
@@ -62,7 +62,7 @@ written-listed m p b behind n at e h =
     let r = rowOf (m .kind) in
     let has = written-row Uart m (require-passed (writable (carries Uart) m) 9 _ (w .0) .0) .0 in
     let read : counted (frameRead Uart b) ≡ given (carriedOn false true m) (length p) = rw (written-reads Uart m p b e) in
-    let body = headFields Uart r m ++ bodyBytes m p in
+    let body = frontFields Uart r m ++ bodyBytes m p in
     rw (← read, ← v .2) (complete-listed (startByte Uart r) r (row-of-start Uart r has) body behind n at (rw (← v .2) at h))
 
 -- "An ESC and start byte break the frame off (3) and begin a new one there; ESC with another wrong byte gives 3 and the hunt goes on after

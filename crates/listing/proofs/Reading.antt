@@ -23,7 +23,7 @@ use Rattle.stuffing.specs.Stuffing.{scan}
 use Rattle.stuffing.specs.declared.Stop.the-variants.{Ended, Broken, Cut}
 use Rattle.stuffing.specs.declared.Stop.{Stop}
 use Rattle.serial.proofs.RoundTrip.{read-writes}
-use Rattle.serial.specs.Frames.{startRow, kindOf, headLength, idField, sourceLegal, sourced, identified, frameBody, closed, started, carries, frameRead, frameWrite}
+use Rattle.serial.specs.Frames.{startRow, kindOf, frontLength, idField, sourceLegal, sourced, identified, frameBody, closed, started, carries, frameRead, frameWrite}
 use Rattle.serial.specs.declared.IdKind.the-variants as IdKind·of
 use Rattle.serial.specs.declared.IdKind.{IdKind}
 use Rattle.serial.specs.declared.Row.{Row}
@@ -130,7 +130,7 @@ low-closed r Cut n size d = omega arith
 low-closed r Broken n size d = omega arith
 low-closed r Ended n size d =
     low-after _ (frameBody Uart r d) (low-require _ 4 passed (omega arith) tt)
-    (low-after _ _ (low-require _ 6 passed (omega arith) tt) (low-identified (kindOf r (idField r d)) _ _ _ (drop (headLength Uart r) d)))
+    (low-after _ _ (low-require _ 6 passed (omega arith) tt) (low-identified (kindOf r (idField r d)) _ _ _ (drop (frontLength Uart r) d)))
 
 low-started : (r : StartRow) (s : List ℕ) → Low (started Uart r s)
 unfolding started

@@ -70,7 +70,7 @@ accepted l source destination reads answered done started =
 
 -- So demand 3 speaks of some world, whatever the link.
 pub starts : (l : Link) → Start file (opened l)
-unfolding setupBytes opened little_endian·LittleEndian.fromBytes little_endian·LittleEndian.toBytes message·Answer.require message·Answer.after message·Answer.within message·Kinds.inside message·Kinds.typeKind message·Kinds.isNack message·Kinds.isEvent message·Checks.idLegal message·Checks.payloadLegal message·Checks.errorLegal message·Checks.fieldChecks message·Checks.told message·Checks.writable message·Checks.writeChecks message·Checks.bodyFits message·Checks.bodyChecks message·Body.errorBytes message·Body.bodyBytes message·Body.bodyMessage message·Body.bodyRead csp·Csp.cspTyped csp·Csp.cspRead csp·Csp.cspHead csp·Csp.cspWrite stuffing·Stuffing.doubled stuffing·Stuffing.escaped stuffing·Stuffing.scan serial·Frames.startRow serial·Frames.byId serial·Frames.kindOf serial·Frames.idField serial·Frames.addressField serial·Frames.sourceLegal serial·Frames.sourced serial·Frames.identified serial·Frames.frameBody serial·Frames.closed serial·Frames.started serial·Frames.frameRead serial·Frames.headFields serial·Frames.frameBytes serial·Frames.frameWrite can·Can.kindOfType can·Can.identifier can·Can.frame can·Can.inSeries can·Can.canBytes can·Can.canWrite can·Can.typeLegal can·Can.zeros can·Can.firstFits can·Can.firstChecks can·Can.allFrames can·Can.canError can·Can.canMessage can·Can.canIdLegal can·Can.canFits can·Can.complete can·Can.canRead link·Link.linkRead link·Link.linkWrite file·File.sizeLegal device_rules·Device.newDevice device_rules·Faults.fault device_rules·Faults.setupFault device_rules·Faults.commandFault device_rules·Commands.setupDone device_rules·Commands.commandDone device_rules·Commands.afterCommand device_rules·Receive.isTaken device_rules·Receive.answerSource device_rules·Receive.answerTo message·Answer.about device_rules·Receive.commandAnswer device_rules·Receive.commandReply device_rules·Receive.kindReply device_rules·Receive.messageReply device_rules·Receive.receive upload·Sender.newSender upload·Sender.addressesLegal upload·Sender.start device_rules·Answers.afterReceive upload·World.bytesOr message·Kinds.errorCarried message·Kinds.indexCarried
+unfolding setupBytes opened little_endian·LittleEndian.fromBytes little_endian·LittleEndian.toBytes message·Answer.require message·Answer.after message·Answer.within message·Kinds.inside message·Kinds.typeKind message·Kinds.isNack message·Kinds.isEvent message·Checks.idLegal message·Checks.payloadLegal message·Checks.errorLegal message·Checks.fieldChecks message·Checks.told message·Checks.writable message·Checks.writeChecks message·Checks.bodyFits message·Checks.bodyChecks message·Body.errorBytes message·Body.bodyBytes message·Body.bodyMessage message·Body.bodyRead csp·Csp.cspTyped csp·Csp.cspRead csp·Csp.cspHead csp·Csp.cspWrite stuffing·Stuffing.doubled stuffing·Stuffing.escaped stuffing·Stuffing.scan serial·Frames.startRow serial·Frames.byId serial·Frames.kindOf serial·Frames.idField serial·Frames.addressField serial·Frames.sourceLegal serial·Frames.sourced serial·Frames.identified serial·Frames.frameBody serial·Frames.closed serial·Frames.started serial·Frames.frameRead serial·Frames.frontFields serial·Frames.frameBytes serial·Frames.frameWrite can·Can.kindOfType can·Can.identifier can·Can.frame can·Can.inSeries can·Can.canBytes can·Can.canWrite can·Can.typeLegal can·Can.zeros can·Can.firstFits can·Can.firstChecks can·Can.allFrames can·Can.canError can·Can.canMessage can·Can.canIdLegal can·Can.canFits can·Can.complete can·Can.canRead link·Link.linkRead link·Link.linkWrite file·File.sizeLegal device_rules·Device.newDevice device_rules·Faults.fault device_rules·Faults.setupFault device_rules·Faults.commandFault device_rules·Commands.setupDone device_rules·Commands.commandDone device_rules·Commands.afterCommand device_rules·Receive.isTaken device_rules·Receive.answerSource device_rules·Receive.answerTo message·Answer.about device_rules·Receive.commandAnswer device_rules·Receive.commandReply device_rules·Receive.kindReply device_rules·Receive.messageReply device_rules·Receive.receive upload·Sender.newSender upload·Sender.addressesLegal upload·Sender.start device_rules·Answers.afterReceive upload·World.bytesOr message·Kinds.errorCarried message·Kinds.indexCarried
 starts Uart = accepted Uart 0 0 refl refl refl refl
 starts Rs485 = accepted Rs485 255 31 refl refl refl refl
 starts Can = accepted Can 255 31 refl refl refl refl

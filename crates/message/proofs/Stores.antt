@@ -1,11 +1,12 @@
 -- Runs of stores, by induction over the bytes stored: one goes on where another stopped, and from the start on they lay bytes over an output.
-use Prim.Native.Nat.{ℕ, suc, _+_, _≤_}
+use Prim.Native.Nat.{ℕ, suc, _+_, _≤_, _<_}
 use mathlib.Core.List.{List, [], _∷_, _++_}
 use mathlib.Core.Path.{_≡_, _∙_}
 use native.Mathlib.Nat.{add-zero, zero-add}
+use native.Mathlib.Numerals.{add-one}
 use native.Mathlib.Omega.{arith}
-use lib.ListN.{length, set, drop, length-append}
-use lib.Seq.{sets, sets-eq}
+use lib.ListN.{length, getD, set, drop, length-append, drop-of-length-le}
+use lib.Seq.{sets, sets-eq, drop-cons}
 
 pub sets-append : (l : List ℕ) (i : ℕ) (a b : List ℕ) → sets (sets l i a) (i + length a) b ≡ sets l i (a ++ b)
 sets-append l i [] b = rw add-zero
@@ -15,6 +16,16 @@ sets-append l i (x ∷ a) b =
 
 pub sets-start : (b out : List ℕ) → length b ≤ length out → sets out 0 b ≡ b ++ drop (length b) out
 sets-start b out h = sets-eq b out 0 (omega arith) ∙ rw zero-add
+
+-- A turn of a loop that stores `s` byte by byte, and its end.
+module _ (s out : List ℕ) (at i : ℕ) where
+  pub store-turn : i < length s → sets (set out (at + i) (getD s i 0)) (at + (i + 1)) (drop (i + 1) s) ≡ sets out (at + i) (drop i s)
+  store-turn h =
+      let next : at + suc i ≡ suc (at + i) = omega arith in
+      rw (add-one, drop-cons s i 0, next)
+
+  pub store-end : length s ≤ i → sets out (at + i) (drop i s) ≡ out
+  store-end h = rw (drop-of-length-le s h)
 
 -- What putting s at a place of `out` gives: the place behind it, and the output then.
 abbrev pub Put : List ℕ → ℕ → List ℕ → ℕ → List ℕ → Type 0

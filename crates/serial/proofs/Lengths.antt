@@ -8,13 +8,13 @@ use Rattle.message.specs.Body.{errorBytes, bodyBytes}
 use Rattle.message.specs.declared.Message.{Message}
 use Rattle.stuffing.specs.Stuffing.{doubled}
 use Rattle.stuffing.proofs.Doubling.{doubled-append}
-use Rattle.serial.specs.Frames.{startByte, rowOf, headFields, frameBytes}
+use Rattle.serial.specs.Frames.{startByte, rowOf, frontFields, frameBytes}
 use Rattle.serial.specs.declared.SerialLink.{SerialLink}
 
 module _ (l : SerialLink) (m : Message) (p : List ℕ) where
-  pub frame-parts : frameBytes l m p ≡ 0x1F ∷ startByte l (rowOf (m .kind)) ∷ (doubled ((headFields l (rowOf (m .kind)) m ++ errorBytes m) ++ p) ++ (0x1F ∷ 0xFF ∷ []))
+  pub frame-parts : frameBytes l m p ≡ 0x1F ∷ startByte l (rowOf (m .kind)) ∷ (doubled ((frontFields l (rowOf (m .kind)) m ++ errorBytes m) ++ p) ++ (0x1F ∷ 0xFF ∷ []))
   unfolding frameBytes bodyBytes
   frame-parts = rw append-assoc
 
-  pub frame-size : length (frameBytes l m p) ≡ 4 + length (doubled (headFields l (rowOf (m .kind)) m)) + length (doubled (errorBytes m)) + length (doubled p)
+  pub frame-size : length (frameBytes l m p) ≡ 4 + length (doubled (frontFields l (rowOf (m .kind)) m)) + length (doubled (errorBytes m)) + length (doubled p)
   frame-size = rw frame-parts (simp (length-append, doubled-append) (omega arith))

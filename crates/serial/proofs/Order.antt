@@ -9,7 +9,7 @@ use Rattle.message.specs.Answer.{refused, require, after}
 use Rattle.stuffing.specs.Stuffing.{doubled, scan}
 use Rattle.stuffing.specs.declared.Stop.the-variants.{Broken}
 use Rattle.stuffing.proofs.Scans.{scan-doubled}
-use Rattle.serial.specs.Frames.{startByte, byId, kindOf, headLength, idField, identified, frameBody, closed, started, frameRead}
+use Rattle.serial.specs.Frames.{startByte, byId, kindOf, frontLength, idField, identified, frameBody, closed, started, frameRead}
 use Rattle.serial.specs.declared.Row.{Row}
 use Rattle.serial.specs.declared.Row.the-variants.{Request, Reply, Nack, Event}
 use Rattle.serial.specs.declared.SerialLink.{SerialLink}
@@ -38,12 +38,12 @@ trailing-four l r d x rest has =
     rw (opened l r s has, scan-doubled d (x ∷ rest), ne-eqb (length (doubled d) + 2) (length s) (λ e. omega arith))
 
 -- "then 6 where ID or address bytes are missing, 5, 6, 7": 6 without them, whatever the ID is;
-pub missing-six : (l : SerialLink) (r : Row) (d : List ℕ) → length d < headLength l r → frameBody l r d ≡ refused 6
+pub missing-six : (l : SerialLink) (r : Row) (d : List ℕ) → length d < frontLength l r → frameBody l r d ≡ refused 6
 unfolding frameBody require after
 missing-six l r d short = rw (lt-leb _ _ short)
 
 -- with them 5 for the ID that no kind has, whatever the length is.
-pub unknown-five : (l : SerialLink) (r : Row) (d : List ℕ) → (r ≡ Event → ⊥) → headLength l r ≤ length d → getD d 0 0 ≡ 255 → frameBody l r d ≡ refused 5
+pub unknown-five : (l : SerialLink) (r : Row) (d : List ℕ) → (r ≡ Event → ⊥) → frontLength l r ≤ length d → getD d 0 0 ≡ 255 → frameBody l r d ≡ refused 5
 unfolding frameBody identified kindOf byId idField require after
 unknown-five l Request d other long e = rw (le-leb _ _ long, e)
 unknown-five l Reply d other long e = rw (le-leb _ _ long, e)

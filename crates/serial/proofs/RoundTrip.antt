@@ -22,7 +22,7 @@ use Rattle.stuffing.specs.Stuffing.{doubled, scan}
 use Rattle.stuffing.specs.declared.Stop.{Stop}
 use Rattle.stuffing.specs.declared.Stop.the-variants.{Ended, Broken, Cut}
 use Rattle.stuffing.proofs.Scans.{scan-doubled, doubled-scan}
-use Rattle.serial.specs.Frames.{startByte, startRow, rowOf, kindOf, headLength, idField, addressField, sourceLegal, sourced, identified, frameBody, closed, started, frameRead, carries, headFields, frameBytes, frameWrite, addressed}
+use Rattle.serial.specs.Frames.{startByte, startRow, rowOf, kindOf, frontLength, idField, addressField, sourceLegal, sourced, identified, frameBody, closed, started, frameRead, carries, frontFields, frameBytes, frameWrite, addressed}
 use Rattle.serial.specs.declared.IdKind.{IdKind}
 use Rattle.serial.specs.declared.IdKind.the-variants as IdKind·of
 use Rattle.serial.specs.declared.Row.{Row}
@@ -44,13 +44,13 @@ frame-around l r d has =
 
 -- A body of the fields in front of the data and the data reads as the data.
 body-around : (l : SerialLink) (m : Message) (q : List ℕ) → Has l (rowOf (m .kind)) → idLegal (m .kind) (m .id) ≡ true
-    → frameBody l (rowOf (m .kind)) (headFields l (rowOf (m .kind)) m ++ q)
+    → frameBody l (rowOf (m .kind)) (frontFields l (rowOf (m .kind)) m ++ q)
     ≡ (let c = carriedOn (addressed l) true m in sourced l (bodyRead (m .kind) (c .id) (c .source) (c .destination) q))
 unfolding frameBody identified carriedOn require after
 body-around l m q has legal =
     let r = rowOf (m .kind) in
     let f = fields-again l r m q has in
-    let long : headLength l r ≤ length (headFields l r m ++ q) = rw (length-append, fields-length l r m) (omega arith) in
+    let long : frontLength l r ≤ length (frontFields l r m ++ q) = rw (length-append, fields-length l r m) (omega arith) in
     rw (le-leb _ _ long, f .0, id-again (m .kind) (m .id), f .1, f .2, f .3, kind-of-id (m .kind) (m .id) legal)
 
 source-carried : (l : SerialLink) (s : ℕ) → sourceLegal l s ≡ true → sourceLegal l (cond (addressed l) s 0) ≡ true
@@ -69,7 +69,7 @@ written-reads l m p b e =
     let h = fields-passed m (payloadLegal (m .kind) (length p)) (c .1) in
     let r = rowOf (m .kind) in
     let source = source-carried l (m .source) (require-passed (sourceLegal l (m .source)) 7 passed (v .0) .0) in
-    rw (← v .2, frame-around l r (headFields l r m ++ bodyBytes m p) (row .0), body-around l m (bodyBytes m p) (row .0) (h .0), body-written (addressed l) m p (c .1) (row .1), source)
+    rw (← v .2, frame-around l r (frontFields l r m ++ bodyBytes m p) (row .0), body-around l m (bodyBytes m p) (row .0) (h .0), body-written (addressed l) m p (c .1) (row .1), source)
 
 sourced-given : (l : SerialLink) (x : Answer Message (List ℕ)) (m : Message) (p : List ℕ) → sourced l x ≡ given m p → (x ≡ given m p) × (sourceLegal l (m .source) ≡ true)
 unfolding sourced
@@ -79,8 +79,8 @@ sourced-given l (given m′ p′) m p e =
     (rw (g .1, g .2), rw (← g .1) (require-passed (sourceLegal l (m′ .source)) 7 passed (g .0) .0))
 
 -- Writing what was read returns the bytes: first from the kind that the ID decided for,
-kind-writes : (l : SerialLink) (r : Row) (d : List ℕ) (m : Message) (p : List ℕ) (k : Kind) → Has l r → headLength l r ≤ length d → kindOf r (idField r d) ≡ IdKind·of.Known k
-    → sourced l (bodyRead k (idField r d) (addressField l d 1) (addressField l d 2) (drop (headLength l r) d)) ≡ given m p
+kind-writes : (l : SerialLink) (r : Row) (d : List ℕ) (m : Message) (p : List ℕ) (k : Kind) → Has l r → frontLength l r ≤ length d → kindOf r (idField r d) ≡ IdKind·of.Known k
+    → sourced l (bodyRead k (idField r d) (addressField l d 1) (addressField l d 2) (drop (frontLength l r) d)) ≡ given m p
     → frameWrite l m p ≡ written (0x1F ∷ startByte l r ∷ (doubled d ++ (0x1F ∷ 0xFF ∷ [])))
 unfolding frameWrite frameBytes writeChecks bodyMessage require after
 kind-writes l r d m p k has long q e =
@@ -89,7 +89,7 @@ kind-writes l r d m p k has long q e =
     let row : rowOf (m .kind) ≡ r = ap (λ (c : Message). rowOf (c .kind)) (sym (z .0)) ∙ row-of-kind r (idField r d) k q in
     let able : writable (carries l) m ≡ true = read-writable l m (rw row has) (z .1) in
     let passes : writeChecks (carries l) m (length p) ≡ passed = rw able (z .2) in
-    let body : headFields l r m ++ bodyBytes m p ≡ d =
+    let body : frontFields l r m ++ bodyBytes m p ≡ d =
     rw (z .3) (body-again l r d m has long (ap (λ (c : Message). c .id) (sym (z .0))) (ap (λ (c : Message). c .source) (sym (z .0))) (ap (λ (c : Message). c .destination) (sym (z .0)))) in
     rw (passes, y .1, row, body)
 
@@ -99,13 +99,13 @@ body-writes : (l : SerialLink) (r : Row) (d : List ℕ) (m : Message) (p : List 
 unfolding frameBody identified
 body-writes l r d m p has e = by (kindOf r (idField r d)) refl
   where
-    f : (require (leb (headLength l r) (length d)) 6 passed ≡ passed) × (identified l (kindOf r (idField r d)) (idField r d) (addressField l d 1) (addressField l d 2) (drop (headLength l r) d) ≡ given m p)
-    f = after-passed (require (leb (headLength l r) (length d)) 6 passed) _ m p e
+    f : (require (leb (frontLength l r) (length d)) 6 passed ≡ passed) × (identified l (kindOf r (idField r d)) (idField r d) (addressField l d 1) (addressField l d 2) (drop (frontLength l r) d) ≡ given m p)
+    f = after-passed (require (leb (frontLength l r) (length d)) 6 passed) _ m p e
 
     by : (x : IdKind) → kindOf r (idField r d) ≡ x → frameWrite l m p ≡ written (0x1F ∷ startByte l r ∷ (doubled d ++ (0x1F ∷ 0xFF ∷ [])))
     by IdKind·of.Unknown q = absurd (let z : _≡_ {A = ℕ} 0 1 = cc (rw q at (f .1)) in omega arith)
     by (IdKind·of.Known k) q =
-        kind-writes l r d m p k has (leb-true _ _ (require-passed (leb (headLength l r) (length d)) 6 passed (f .0) .0)) q (rw q at (f .1))
+        kind-writes l r d m p k has (leb-true _ _ (require-passed (leb (frontLength l r) (length d)) 6 passed (f .0) .0)) q (rw q at (f .1))
 
 -- then from a start byte of the link,
 row-writes : (l : SerialLink) (r : Row) (s : List ℕ) (m : Message) (p : List ℕ) → Has l r → closed l r (scan s .stop) (scan s .passed) (length s) (scan s .body) ≡ given m p

@@ -16,7 +16,7 @@ use Rattle.message.specs.declared.Kind.the-variants as Kind·of
 use Rattle.message.specs.declared.Message.{Message}
 use Rattle.message.proofs.Checks.{both-true, plain-writable, writable-plain}
 use Rattle.message.proofs.Tables.{by-row}
-use Rattle.serial.specs.Frames.{startByte, startRow, rowOf, byId, kindOf, headLength, idField, addressField, carries, headFields, addressed}
+use Rattle.serial.specs.Frames.{startByte, startRow, rowOf, byId, kindOf, frontLength, idField, addressField, carries, frontFields, addressed}
 use Rattle.serial.specs.declared.IdKind.the-variants as IdKind·of
 use Rattle.serial.specs.declared.StartRow.the-variants as StartRow·of
 use Rattle.serial.specs.declared.Row.{Row}
@@ -25,15 +25,15 @@ use Rattle.serial.specs.declared.SerialLink.{SerialLink}
 use Rattle.serial.specs.declared.SerialLink.the-variants.{Uart, Rs485}
 
 -- At most ID, source and destination stand in front of the data.
-pub head-length-three : (l : SerialLink) (r : Row) → headLength l r ≤ 3
-head-length-three Uart Request = omega arith
-head-length-three Uart Reply = omega arith
-head-length-three Uart Nack = omega arith
-head-length-three Uart Event = omega arith
-head-length-three Rs485 Request = omega arith
-head-length-three Rs485 Reply = omega arith
-head-length-three Rs485 Nack = omega arith
-head-length-three Rs485 Event = omega arith
+pub front-length-three : (l : SerialLink) (r : Row) → frontLength l r ≤ 3
+front-length-three Uart Request = omega arith
+front-length-three Uart Reply = omega arith
+front-length-three Uart Nack = omega arith
+front-length-three Uart Event = omega arith
+front-length-three Rs485 Request = omega arith
+front-length-three Rs485 Reply = omega arith
+front-length-three Rs485 Nack = omega arith
+front-length-three Rs485 Event = omega arith
 
 -- RS485 has no event.
 abbrev pub Has : SerialLink → Row → Type 0
@@ -75,8 +75,8 @@ start-of-row Rs485 b r e =
 
 -- The fields in front of the data, each read back from its place.
 pub fields-again : (l : SerialLink) (r : Row) (m : Message) (q : List ℕ) → Has l r
-    → (idField r (headFields l r m ++ q) ≡ idField r (m .id ∷ [])) × (addressField l (headFields l r m ++ q) 1 ≡ cond (addressed l) (m .source) 0) × (addressField l (headFields l r m ++ q) 2 ≡ cond (addressed l) (m .destination) 0) × (drop (headLength l r) (headFields l r m ++ q) ≡ q)
-unfolding headFields idField addressField
+    → (idField r (frontFields l r m ++ q) ≡ idField r (m .id ∷ [])) × (addressField l (frontFields l r m ++ q) 1 ≡ cond (addressed l) (m .source) 0) × (addressField l (frontFields l r m ++ q) 2 ≡ cond (addressed l) (m .destination) 0) × (drop (frontLength l r) (frontFields l r m ++ q) ≡ q)
+unfolding frontFields idField addressField
 fields-again Uart Request m q h = (refl, refl, refl, refl)
 fields-again Uart Reply m q h = (refl, refl, refl, refl)
 fields-again Uart Nack m q h = (refl, refl, refl, refl)
@@ -97,8 +97,8 @@ id-again Kind·of.TelemetryResponse id = refl
 id-again Kind·of.TelemetryNack id = refl
 id-again Kind·of.Event id = refl
 
-pub fields-length : (l : SerialLink) (r : Row) (m : Message) → length (headFields l r m) ≡ headLength l r
-unfolding headFields
+pub fields-length : (l : SerialLink) (r : Row) (m : Message) → length (frontFields l r m) ≡ frontLength l r
+unfolding frontFields
 fields-length Uart Request m = refl
 fields-length Uart Reply m = refl
 fields-length Uart Nack m = refl
@@ -209,9 +209,9 @@ three-ahead (x ∷ []) h = absurd (omega arith)
 three-ahead (x ∷ y ∷ []) h = absurd (omega arith)
 three-ahead (x ∷ y ∷ z ∷ d) h = refl
 
-pub body-again : (l : SerialLink) (r : Row) (d : List ℕ) (m : Message) → Has l r → headLength l r ≤ length d
-    → m .id ≡ idField r d → m .source ≡ addressField l d 1 → m .destination ≡ addressField l d 2 → headFields l r m ++ drop (headLength l r) d ≡ d
-unfolding headFields idField addressField
+pub body-again : (l : SerialLink) (r : Row) (d : List ℕ) (m : Message) → Has l r → frontLength l r ≤ length d
+    → m .id ≡ idField r d → m .source ≡ addressField l d 1 → m .destination ≡ addressField l d 2 → frontFields l r m ++ drop (frontLength l r) d ≡ d
+unfolding frontFields idField addressField
 body-again Uart Request d m has long i s t = rw i (one-ahead d long)
 body-again Uart Reply d m has long i s t = rw i (one-ahead d long)
 body-again Uart Nack d m has long i s t = rw i (one-ahead d long)

@@ -70,15 +70,15 @@ kindOf Nack id = byId id Kind·of.TelecommandNack Kind·of.TelemetryNack
 kindOf Event id = IdKind·of.Known Kind·of.Event
 
 -- How many bytes stand between the start byte and the data: the ID (none for an event), on RS485 source and destination.
-abbrev pub headLength : SerialLink → Row → ℕ
-headLength Uart Request = 1
-headLength Uart Reply = 1
-headLength Uart Nack = 1
-headLength Uart Event = 0
-headLength Rs485 Request = 3
-headLength Rs485 Reply = 3
-headLength Rs485 Nack = 3
-headLength Rs485 Event = 0
+abbrev pub frontLength : SerialLink → Row → ℕ
+frontLength Uart Request = 1
+frontLength Uart Reply = 1
+frontLength Uart Nack = 1
+frontLength Uart Event = 0
+frontLength Rs485 Request = 3
+frontLength Rs485 Reply = 3
+frontLength Rs485 Nack = 3
+frontLength Rs485 Event = 0
 
 -- The fields in front of the data of a body. What the link or the row doesn't carry reads as 0, an event's ID as 255.
 unfoldable pub idField : Row → List ℕ → ℕ
@@ -108,8 +108,8 @@ identified l (IdKind·of.Known k) id s t d = sourced l (bodyRead k id s t d)
 -- 6 where ID or address bytes are missing, then 5, 6, 7.
 unfoldable pub frameBody : SerialLink → Row → List ℕ → Answer Message (List ℕ)
 frameBody l r d =
-    after (require (leb (headLength l r) (length d)) 6 passed)
-    (identified l (kindOf r (idField r d)) (idField r d) (addressField l d 1) (addressField l d 2) (drop (headLength l r) d))
+    after (require (leb (frontLength l r) (length d)) 6 passed)
+    (identified l (kindOf r (idField r d)) (idField r d) (addressField l d 1) (addressField l d 2) (drop (frontLength l r) d))
 
 -- 1 the input ends inside the frame, 3 ESC before any byte but ESC or FF, 4 bytes after the tail.
 unfoldable pub closed : SerialLink → Row → Stop → ℕ → ℕ → List ℕ → Answer Message (List ℕ)
@@ -134,20 +134,20 @@ carries Uart = record { events = true; untold = false }
 carries Rs485 = record { events = false; untold = false }
 
 -- Writing: the fields in front of the data.
-unfoldable pub headFields : SerialLink → Row → Message → List ℕ
-headFields Uart Request m = m .id ∷ []
-headFields Uart Reply m = m .id ∷ []
-headFields Uart Nack m = m .id ∷ []
-headFields Uart Event m = []
-headFields Rs485 Request m = m .id ∷ m .source ∷ m .destination ∷ []
-headFields Rs485 Reply m = m .id ∷ m .source ∷ m .destination ∷ []
-headFields Rs485 Nack m = m .id ∷ m .source ∷ m .destination ∷ []
-headFields Rs485 Event m = []
+unfoldable pub frontFields : SerialLink → Row → Message → List ℕ
+frontFields Uart Request m = m .id ∷ []
+frontFields Uart Reply m = m .id ∷ []
+frontFields Uart Nack m = m .id ∷ []
+frontFields Uart Event m = []
+frontFields Rs485 Request m = m .id ∷ m .source ∷ m .destination ∷ []
+frontFields Rs485 Reply m = m .id ∷ m .source ∷ m .destination ∷ []
+frontFields Rs485 Nack m = m .id ∷ m .source ∷ m .destination ∷ []
+frontFields Rs485 Event m = []
 
 -- "A frame is ESC, a start byte, the ID, on RS485 source and destination, then data, then ESC 0xFF."
 unfoldable pub frameBytes : SerialLink → Message → List ℕ → List ℕ
 frameBytes l m p =
-    0x1F ∷ startByte l (rowOf (m .kind)) ∷ (doubled (headFields l (rowOf (m .kind)) m ++ bodyBytes m p) ++ (0x1F ∷ 0xFF ∷ []))
+    0x1F ∷ startByte l (rowOf (m .kind)) ∷ (doubled (frontFields l (rowOf (m .kind)) m ++ bodyBytes m p) ++ (0x1F ∷ 0xFF ∷ []))
 
 -- "Refusal numbers", writing: 9, 5, 6, 7.
 unfoldable pub frameWrite : SerialLink → Message → List ℕ → Answer Unit (List ℕ)

@@ -2,7 +2,7 @@
 // source.
 // The rules are `serial`'s.
 ghost use mathlib.Core.Path.{_≡_};
-ghost use Rattle.serial.specs.Frames.{startRow, headLength, sourceLegal};
+ghost use Rattle.serial.specs.Frames.{startRow, frontLength, sourceLegal};
 use serial::Row;
 use serial::SerialLink;
 use serial::StartRow;
@@ -51,8 +51,8 @@ pub fn start_row(link: SerialLink, start: u8) -> StartRow
 }
 
 // How many bytes stand between the start byte and the data.
-pub fn head_length(link: SerialLink, row: Row) -> usize
-    ensures { λ r. ⌜ r ≡ headLength link row ⌝ }
+pub fn front_length(link: SerialLink, row: Row) -> usize
+    ensures { λ r. ⌜ r ≡ frontLength link row ⌝ }
 {
     match link {
         SerialLink::Uart => match row {

@@ -7,7 +7,7 @@ ghost use Rattle.message.specs.Answer.{readTold, within, counted, laid, given};
 ghost use Rattle.message.specs.Body.{bodyRead};
 ghost use Rattle.stuffing.specs.Stuffing.{frameScan};
 ghost use Rattle.stuffing.specs.declared.Stop.the-variants.{Ended};
-ghost use Rattle.serial.specs.Frames.{headLength, idField, addressField, sourced, frameBody, closed, frameRead};
+ghost use Rattle.serial.specs.Frames.{frontLength, idField, addressField, sourced, frameBody, closed, frameRead};
 use crate::kind::kind_of;
 use crate::undouble::body_byte;
 use crate::undouble::skip;
@@ -23,7 +23,7 @@ use serial::Row;
 use serial::SerialLink;
 use serial::StartRow;
 use serial_head::escape;
-use serial_head::head_length;
+use serial_head::front_length;
 use serial_head::source_legal;
 use serial_head::start_row;
 use stuffing::Stop;
@@ -76,14 +76,14 @@ fn read_frame(link: SerialLink, row: Row, bytes: &[u8], count: usize, out: &mut 
     ensures { λ r. ⌜ readTold r ≡ counted (within (now (out .entry)) (frameBody link row (frameScan (now (bytes .entry)) .body))) ⌝ }
     ensures { λ _. ⌜ now (out .exit) ≡ laid (within (now (out .entry)) (frameBody link row (frameScan (now (bytes .entry)) .body))) (now (out .entry)) ⌝ }
 {
-    let head = head_length(link, row);
-    if count < head {
+    let front = front_length(link, row);
+    if count < front {
         return ReadAnswer::Refused(Refusal::WrongLength);
     }
     let id = id_field(link, row, bytes, count);
     match kind_of(row, id) {
         IdKind::Unknown => ReadAnswer::Refused(Refusal::IdOutOfRange),
-        IdKind::Known(kind) => read_data(link, kind, id, bytes, count, head, out),
+        IdKind::Known(kind) => read_data(link, kind, id, bytes, count, front, out),
     }
 }
 
@@ -111,27 +111,27 @@ fn address_field(link: SerialLink, bytes: &[u8], count: usize, i: usize) -> u8
     }
 }
 
-// Reads the data of a body, which stands behind head bytes, as a message of a kind.
+// Reads the data of a body, which stands behind `front` bytes, as a message of a kind.
 fn read_data(
     link: SerialLink,
     kind: Kind,
     id: u8,
     bytes: &[u8],
     count: usize,
-    head: usize,
+    front: usize,
     out: &mut [u8],
 ) -> ReadAnswer
     requires { ⌜ frameScan (now bytes) .stop ≡ Ended ⌝ }
     requires { ⌜ count ≡ length (frameScan (now bytes) .body) ⌝ }
-    requires { ⌜ head ≤ count ⌝ }
-    requires { ⌜ head ≤ 3 ⌝ }
-    ensures { λ r. ⌜ readTold r ≡ counted (within (now (out .entry)) (sourced link (bodyRead kind id (addressField link (frameScan (now (bytes .entry)) .body) 1) (addressField link (frameScan (now (bytes .entry)) .body) 2) (drop head (frameScan (now (bytes .entry)) .body))))) ⌝ }
-    ensures { λ _. ⌜ now (out .exit) ≡ laid (within (now (out .entry)) (sourced link (bodyRead kind id (addressField link (frameScan (now (bytes .entry)) .body) 1) (addressField link (frameScan (now (bytes .entry)) .body) 2) (drop head (frameScan (now (bytes .entry)) .body))))) (now (out .entry)) ⌝ }
+    requires { ⌜ front ≤ count ⌝ }
+    requires { ⌜ front ≤ 3 ⌝ }
+    ensures { λ r. ⌜ readTold r ≡ counted (within (now (out .entry)) (sourced link (bodyRead kind id (addressField link (frameScan (now (bytes .entry)) .body) 1) (addressField link (frameScan (now (bytes .entry)) .body) 2) (drop front (frameScan (now (bytes .entry)) .body))))) ⌝ }
+    ensures { λ _. ⌜ now (out .exit) ≡ laid (within (now (out .entry)) (sourced link (bodyRead kind id (addressField link (frameScan (now (bytes .entry)) .body) 1) (addressField link (frameScan (now (bytes .entry)) .body) 2) (drop front (frameScan (now (bytes .entry)) .body))))) (now (out .entry)) ⌝ }
 {
     let source = address_field(link, bytes, count, 1);
     let destination = address_field(link, bytes, count, 2);
-    let error = ErrorByte::Told(body_byte(link, bytes, 2, count, head));
-    let index = body_byte(link, bytes, 2, count, head + 1);
+    let error = ErrorByte::Told(body_byte(link, bytes, 2, count, front));
+    let index = body_byte(link, bytes, 2, count, front + 1);
     let raw = Message {
         kind,
         id,
@@ -141,13 +141,13 @@ fn read_data(
         index,
     };
     let message = fields::carried(raw);
-    match checks::check_body(message, count - head) {
+    match checks::check_body(message, count - front) {
         Verdict::Refused(refusal) => ReadAnswer::Refused(refusal),
         Verdict::Passed => {
             if !source_legal(link, source) {
                 return ReadAnswer::Refused(Refusal::IllegalValue);
             }
-            let skipped = head + kinds::error_length(kind);
+            let skipped = front + kinds::error_length(kind);
             read_payload(link, message, bytes, count, skipped, out)
         }
     }

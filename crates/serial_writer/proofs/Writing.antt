@@ -10,7 +10,7 @@ use Rattle.message.specs.Body.{errorNumber, errorBytes}
 use Rattle.message.specs.Kinds.{errorLength}
 use Rattle.message.specs.declared.Message.{Message}
 use Rattle.stuffing.specs.Stuffing.{doubled}
-use Rattle.serial.specs.Frames.{startByte, rowOf, headLength, headFields, frameBytes}
+use Rattle.serial.specs.Frames.{startByte, rowOf, frontLength, frontFields, frameBytes}
 use Rattle.serial.proofs.Lengths.{frame-parts}
 use Rattle.serial.specs.declared.Row.{Row}
 use Rattle.serial.specs.declared.Row.the-variants.{Request, Reply, Nack, Event}
@@ -25,28 +25,28 @@ fieldsOf zero m = []
 fieldsOf (suc zero) m = m .id ∷ []
 fieldsOf (suc (suc n)) m = m .id ∷ m .source ∷ m .destination ∷ []
 
-head-fields : (l : SerialLink) (r : Row) (m : Message) → headFields l r m ≡ fieldsOf (headLength l r) m
-unfolding headFields
-head-fields Uart Request m = refl
-head-fields Uart Reply m = refl
-head-fields Uart Nack m = refl
-head-fields Uart Event m = refl
-head-fields Rs485 Request m = refl
-head-fields Rs485 Reply m = refl
-head-fields Rs485 Nack m = refl
-head-fields Rs485 Event m = refl
+front-fields : (l : SerialLink) (r : Row) (m : Message) → frontFields l r m ≡ fieldsOf (frontLength l r) m
+unfolding frontFields
+front-fields Uart Request m = refl
+front-fields Uart Reply m = refl
+front-fields Uart Nack m = refl
+front-fields Uart Event m = refl
+front-fields Rs485 Request m = refl
+front-fields Rs485 Reply m = refl
+front-fields Rs485 Nack m = refl
+front-fields Rs485 Event m = refl
 
-module _ (l : SerialLink) (m : Message) (r : Row) (n : ℕ) (row : r ≡ rowOf (m .kind)) (size : n ≡ headLength l r) where
-  counted-fields : headFields l (rowOf (m .kind)) m ≡ fieldsOf n m
-  counted-fields = rw (size, row) (head-fields l (rowOf (m .kind)) m)
+module _ (l : SerialLink) (m : Message) (r : Row) (n : ℕ) (row : r ≡ rowOf (m .kind)) (size : n ≡ frontLength l r) where
+  counted-fields : frontFields l (rowOf (m .kind)) m ≡ fieldsOf n m
+  counted-fields = rw (size, row) (front-fields l (rowOf (m .kind)) m)
 
-  pub fields-none : n ≡ 0 → headFields l (rowOf (m .kind)) m ≡ []
+  pub fields-none : n ≡ 0 → frontFields l (rowOf (m .kind)) m ≡ []
   fields-none e = rw (counted-fields, e)
 
-  pub fields-one : n ≡ 1 → headFields l (rowOf (m .kind)) m ≡ m .id ∷ []
+  pub fields-one : n ≡ 1 → frontFields l (rowOf (m .kind)) m ≡ m .id ∷ []
   fields-one e = rw (counted-fields, e)
 
-  pub fields-all : (n ≡ 0 → ⊥) → (n ≡ 1 → ⊥) → headFields l (rowOf (m .kind)) m ≡ m .id ∷ m .source ∷ m .destination ∷ []
+  pub fields-all : (n ≡ 0 → ⊥) → (n ≡ 1 → ⊥) → frontFields l (rowOf (m .kind)) m ≡ m .id ∷ m .source ∷ m .destination ∷ []
   fields-all h k = counted-fields ∙ many n h k
     where
       many : (i : ℕ) → (i ≡ 0 → ⊥) → (i ≡ 1 → ⊥) → fieldsOf i m ≡ m .id ∷ m .source ∷ m .destination ∷ []
@@ -77,7 +77,7 @@ pub record Stored (frame out left : List ℕ) (n : ℕ) : Type 0 where
 
 module _ (l : SerialLink) (m : Message) (p : List ℕ) where
   abbrev fields : List ℕ
-  fields = headFields l (rowOf (m .kind)) m
+  fields = frontFields l (rowOf (m .kind)) m
 
   -- The start, what was put behind it part by part, and the tail.
   pub frame-stored : (out first second left : List ℕ) (i j n : ℕ)

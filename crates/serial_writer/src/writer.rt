@@ -6,7 +6,7 @@ ghost use lib.Seq.{sets};
 ghost use Rattle.message.specs.Answer.{writeTold, passed, require, after, within, counted, laid, written};
 ghost use Rattle.message.specs.Body.{errorBytes};
 ghost use Rattle.stuffing.specs.Stuffing.{doubled};
-ghost use Rattle.serial.specs.Frames.{rowOf, sourceLegal, headFields, frameBytes, frameWrite};
+ghost use Rattle.serial.specs.Frames.{rowOf, sourceLegal, frontFields, frameBytes, frameWrite};
 use crate::double::byte_length;
 use crate::double::double;
 use crate::double::doubled_length;
@@ -20,7 +20,7 @@ use message::Verdict;
 use message::WriteAnswer;
 use serial::SerialLink;
 use serial_head::escape;
-use serial_head::head_length;
+use serial_head::front_length;
 use serial_head::source_legal;
 use serial_head::tail;
 
@@ -61,10 +61,10 @@ fn frame_length(link: SerialLink, message: Message, payload: &[u8]) -> usize
 
 // How many bytes the fields in front of the data take: at most three, each doubled.
 fn fields_length(link: SerialLink, message: Message) -> usize
-    ensures { λ r. ⌜ (r ≡ length (doubled (headFields link (rowOf (message .kind)) message))) × (r ≤ 6) ⌝ }
+    ensures { λ r. ⌜ (r ≡ length (doubled (frontFields link (rowOf (message .kind)) message))) × (r ≤ 6) ⌝ }
 {
     let kind = message.kind;
-    let fields = head_length(link, row_of(kind));
+    let fields = front_length(link, row_of(kind));
     if fields == 0 {
         return 0;
     }
@@ -112,12 +112,12 @@ fn put_frame(link: SerialLink, message: Message, payload: &[u8], out: &mut [u8])
 
 // Puts the fields in front of the data, and gives the place behind them.
 fn put_fields(link: SerialLink, message: Message, out: &mut [u8], at: usize) -> usize
-    requires { ⌜ at + length (doubled (headFields link (rowOf (message .kind)) message)) ≤ length (now out) ⌝ }
-    ensures { λ r. ⌜ r ≡ at + length (doubled (headFields link (rowOf (message .kind)) message)) ⌝ }
-    ensures { λ _. ⌜ now (out .exit) ≡ sets (now (out .entry)) at (doubled (headFields link (rowOf (message .kind)) message)) ⌝ }
+    requires { ⌜ at + length (doubled (frontFields link (rowOf (message .kind)) message)) ≤ length (now out) ⌝ }
+    ensures { λ r. ⌜ r ≡ at + length (doubled (frontFields link (rowOf (message .kind)) message)) ⌝ }
+    ensures { λ _. ⌜ now (out .exit) ≡ sets (now (out .entry)) at (doubled (frontFields link (rowOf (message .kind)) message)) ⌝ }
 {
     let kind = message.kind;
-    let fields = head_length(link, row_of(kind));
+    let fields = front_length(link, row_of(kind));
     if fields == 0 {
         return at;
     }

@@ -7,7 +7,7 @@ use native.Mathlib.Omega.{arith}
 use denote.Ref.{now}
 use lib.ListN.{length, drop, length-set}
 use lib.Seq.{sets}
-use Rattle.can_writer.proofs.Writing.{store-turn, store-end}
+use Rattle.message.proofs.Stores.{store-turn, store-end}
 use Rattle.can_writer.proofs.writer.copy.Statement.{statement}
 use Rattle.can_writer.proofs.writer.copy.Tie as tie
 

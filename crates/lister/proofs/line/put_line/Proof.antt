@@ -6,7 +6,7 @@ use denote.Ref.{now}
 use Rattle.digits.specs.Numbers.{decimal}
 use Rattle.listing.specs.Lines.{text, nameText, fieldText, spaced, lineText}
 use Rattle.message.proofs.Stores.{put-more}
-use Rattle.listing.proofs.Puts.{line-size}
+use Rattle.listing.proofs.Sizes.{line-size}
 use Rattle.lister.proofs.line.put_line.Statement.{statement}
 use Rattle.lister.proofs.line.put_line.Tie as tie
 

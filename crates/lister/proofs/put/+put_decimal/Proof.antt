@@ -12,7 +12,7 @@ use lib.ListN.{length}
 use Rattle.digits.specs.Numbers.{decimal}
 use Rattle.digits.proofs.Printing.{decimal-digit, decimal-more}
 use Rattle.message.proofs.Stores.{put-more}
-use Rattle.listing.proofs.Puts.{digit-byte, more-size}
+use Rattle.listing.proofs.Sizes.{digit-byte, more-size}
 use Rattle.lister.proofs.put.put_decimal.Reads as put-decimal
 use Rattle.lister.proofs.put.put_decimal.Kinds as put-decimal-kinds
 use Rattle.lister.proofs.put.+put_decimal.Lts-put_decimal as lts

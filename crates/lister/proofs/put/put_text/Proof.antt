@@ -6,7 +6,7 @@ use native.Mathlib.Omega.{arith}
 use borrow.Author.Needs.{needs}
 use lib.ListN.{length, drop}
 use lib.Seq.{sets}
-use Rattle.listing.proofs.Puts.{put-turn, put-end}
+use Rattle.message.proofs.Stores.{store-turn, store-end}
 use Rattle.lister.proofs.put.put_text.Statement.{statement}
 use Rattle.lister.proofs.put.put_text.Tie as tie
 
@@ -38,8 +38,8 @@ loop-again : tie.Need-loop-again Inv-loop μ-loop
 loop-again c =
     let a = c .before .before .before .before .before .before .before .before .before .args in
     let l = c .before .before .before .before .before .before .loop in
-    let turn = put-turn (a .text .now) (l .out) (a .at) (l .i) (omega arith) in
-    (omega arith, c .before .before .put-byte .kept .1 .0 ∙ l .inv .1, rw (c .before .before .put-byte .ensures .1) (sym turn ∙ l .inv .2))
+    let turn = store-turn (a .text .now) (l .out) (a .at) (l .i) (omega arith) in
+    (omega arith, c .before .before .put-byte .kept .1 .0 ∙ l .inv .1, rw (c .before .before .put-byte .ensures .1) (turn ∙ l .inv .2))
 
 add-result : tie.Need-add-result Inv-loop μ-loop
 add-result c = search needs
@@ -51,7 +51,7 @@ returns : tie.Need-returns Inv-loop μ-loop
 returns c =
     let a = c .before .before .before .before .args in
     let l = c .before .loop in
-    (omega arith, sym (put-end (a .text .now) (l .out) (a .at) (l .i) (omega arith)) ∙ l .inv .2)
+    (omega arith, sym (store-end (a .text .now) (l .out) (a .at) (l .i) (omega arith)) ∙ l .inv .2)
 
 pub put-text-spec : {M : Type 1} → statement M
 put-text-spec =

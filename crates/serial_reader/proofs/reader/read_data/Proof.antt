@@ -30,14 +30,14 @@ Source k = addressField (k .before .before .before .before .before .before .befo
 abbrev Destination : tie.After-carried → ℕ
 Destination k = addressField (k .before .before .before .before .before .before .before .args .link) (Body k) 2
 
-same : (k : tie.After-carried) → k .carried .result ≡ bodyMessage (k .before .before .before .before .before .before .before .args .kind) (k .before .before .before .before .before .before .before .args .id) (Source k) (Destination k) (drop (k .before .before .before .before .before .before .before .args .head) (Body k))
+same : (k : tie.After-carried) → k .carried .result ≡ bodyMessage (k .before .before .before .before .before .before .before .args .kind) (k .before .before .before .before .before .before .before .args .id) (Source k) (Destination k) (drop (k .before .before .before .before .before .before .before .args .front) (Body k))
 same k =
     let l = k .before .before .before .before .before .before .before .args in
-    rw (← data-message (l .kind) (l .id) (Source k) (Destination k) (l .head) (Body k), ← k .before .before .before .before .address-field .ensures, ← k .before .before .before .address-field2 .ensures, ← k .before .before .body-byte .ensures, ← k .before .body-byte2 .ensures)
+    rw (← data-message (l .kind) (l .id) (Source k) (Destination k) (l .front) (Body k), ← k .before .before .before .before .address-field .ensures, ← k .before .before .before .address-field2 .ensures, ← k .before .before .body-byte .ensures, ← k .before .body-byte2 .ensures)
     (k .carried .ensures)
 
-size : (k : tie.After-carried) → k .before .before .before .before .before .before .before .args .count - k .before .before .before .before .before .before .before .args .head ≡ length (Body k) - k .before .before .before .before .before .before .before .args .head
-size k = ap (λ (n : ℕ). n - k .before .before .before .before .before .before .before .args .head) (k .before .before .before .before .before .before .before .pre .1 .0)
+size : (k : tie.After-carried) → k .before .before .before .before .before .before .before .args .count - k .before .before .before .before .before .before .before .args .front ≡ length (Body k) - k .before .before .before .before .before .before .before .args .front
+size k = ap (λ (n : ℕ). n - k .before .before .before .before .before .before .before .args .front) (k .before .before .before .before .before .before .before .pre .1 .0)
 
 address-field-requires : tie.Need-address-field-requires
 address-field-requires c κs = search needs
@@ -77,11 +77,11 @@ unfolding verdictTold within counted laid readTold
 returns c =
     let k = c .before .before .before .before .before in
     let l = k .before .before .before .before .before .before .before .args in
-    let passes : bodyChecks (k .carried .result) (length (Body k) - l .head) ≡ passed =
+    let passes : bodyChecks (k .carried .result) (length (Body k) - l .front) ≡ passed =
     rw (← size k, ← c .before .before .before .before .check-body .ensures, c .before .before .enum-told .given .1) in
     let illegal : sourceLegal (l .link) (Source k) ≡ false =
     rw (← k .before .before .before .before .address-field .ensures, ← c .before .source-legal .ensures) (not-true (c .before .source-legal .result) (c .if1 .taken)) in
-    rw (data-source (l .link) (l .kind) (l .id) (Source k) (Destination k) (l .head) (Body k) (k .carried .result) (same k) passes illegal) (refl, refl)
+    rw (data-source (l .link) (l .kind) (l .id) (Source k) (Destination k) (l .front) (Body k) (k .carried .result) (same k) passes illegal) (refl, refl)
 
 error-length-requires : tie.Need-error-length-requires
 error-length-requires c κs = search needs
@@ -95,7 +95,7 @@ read-payload-requires c κs =
     let p = c .before .before .before .before .before .before .before .before .before .before .before .before .before .before .pre in
     let m = c .before .before .before .before .before .before .before .carried in
     let same : errorLength (m .result .kind) ≡ errorLength (a .kind) = rw (m .ensures) in
-    let room : errorLength (m .result .kind) ≤ a .count - a .head = body-room _ _ _ (c .before .before .before .before .before .before .check-body .ensures) (c .before .before .before .before .enum-told .given .1) in
+    let room : errorLength (m .result .kind) ≤ a .count - a .front = body-room _ _ _ (c .before .before .before .before .before .before .check-body .ensures) (c .before .before .before .before .enum-told .given .1) in
     (p .0, (p .1 .0, omega (arith, room, same, c .before .error-length .ensures, p .1 .1 .0)))
 
 returns-2 : tie.Need-returns-2
@@ -103,9 +103,9 @@ unfolding verdictTold within counted laid readTold
 returns-2 c =
     let k = c .before .before .before .before in
     let l = k .before .before .before .before .before .before .before .args in
-    let refuses : bodyChecks (k .carried .result) (length (Body k) - l .head) ≡ failed (number (c .before .refusal .given .0 .0)) =
+    let refuses : bodyChecks (k .carried .result) (length (Body k) - l .front) ≡ failed (number (c .before .refusal .given .0 .0)) =
     rw (← size k, ← c .before .before .before .check-body .ensures, c .before .refusal .given .1) in
-    rw (data-refused (l .link) (l .kind) (l .id) (Source k) (Destination k) (l .head) (Body k) (k .carried .result) (same k) _ refuses) (refl, refl)
+    rw (data-refused (l .link) (l .kind) (l .id) (Source k) (Destination k) (l .front) (Body k) (k .carried .result) (same k) _ refuses) (refl, refl)
 
 same-length : tie.Need-same-length
 same-length c = c .before .before .read-payload .kept .1 .1 .1 .1 .1 .0
@@ -115,11 +115,11 @@ unfolding verdictTold
 returns-3 c =
     let k = c .before .before .before .before .before .before .before .before .before .before in
     let l = k .before .before .before .before .before .before .before .args in
-    let passes : bodyChecks (k .carried .result) (length (Body k) - l .head) ≡ passed =
+    let passes : bodyChecks (k .carried .result) (length (Body k) - l .front) ≡ passed =
     rw (← size k, ← c .before .before .before .before .before .before .before .before .before .check-body .ensures, c .before .before .before .before .before .before .before .enum-told .given .1) in
     let legal : sourceLegal (l .link) (Source k) ≡ true =
     rw (← k .before .before .before .before .address-field .ensures, ← c .before .before .before .before .before .before .source-legal .ensures) (not-false (c .before .before .before .before .before .before .source-legal .result) (c .before .before .before .before .before .if1 .left)) in
-    rw (data-given (l .link) (l .kind) (l .id) (Source k) (Destination k) (l .head) (Body k) (k .carried .result) (same k) passes legal, ← c .before .before .before .before .error-length .ensures)
+    rw (data-given (l .link) (l .kind) (l .id) (Source k) (Destination k) (l .front) (Body k) (k .carried .result) (same k) passes legal, ← c .before .before .before .before .error-length .ensures)
     (c .before .before .read-payload .ensures)
 
 pub read-data-spec : {M : Type 1} → statement M

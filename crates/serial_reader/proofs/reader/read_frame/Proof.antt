@@ -4,16 +4,16 @@ use mathlib.Core.Path.{refl}
 use borrow.Author.Tests.{le-leb, lt-leb}
 use Rattle.message.specs.Answer.{readTold, require, after, within, counted, laid}
 use Rattle.serial.specs.Frames.{identified, frameBody}
-use Rattle.serial.proofs.Tables.{head-length-three}
+use Rattle.serial.proofs.Tables.{front-length-three}
 use Rattle.serial_reader.proofs.reader.read_frame.Statement.{statement}
 use Rattle.serial_reader.proofs.reader.read_frame.Tie as tie
 
-head-length-requires : tie.Need-head-length-requires
-head-length-requires c κs = search needs
+front-length-requires : tie.Need-front-length-requires
+front-length-requires c κs = search needs
 
 returns : tie.Need-returns
 unfolding frameBody require after within counted laid readTold
-returns c = rw (← c .before .head-length .ensures, ← c .before .before .before .before .pre .1, lt-leb _ _ (c .if1 .taken)) (refl, refl)
+returns c = rw (← c .before .front-length .ensures, ← c .before .before .before .before .pre .1, lt-leb _ _ (c .if1 .taken)) (refl, refl)
 
 id-field-requires : tie.Need-id-field-requires
 id-field-requires c κs = search needs
@@ -28,24 +28,24 @@ enum-known-kind : tie.Need-enum-known-kind
 enum-known-kind c = search needs
 
 read-data-requires : tie.Need-read-data-requires
-read-data-requires c κs = (c .before .before .before .before .before .before .before .before .before .before .pre .0, (c .before .before .before .before .before .before .before .before .before .before .pre .1, (c .before .before .before .before .before .before .if1 .left, rw (c .before .before .before .before .before .before .before .head-length .ensures) (head-length-three (c .before .before .before .before .before .before .before .before .before .before .args .link) (c .before .before .before .before .before .before .before .before .before .before .args .row)))))
+read-data-requires c κs = (c .before .before .before .before .before .before .before .before .before .before .pre .0, (c .before .before .before .before .before .before .before .before .before .before .pre .1, (c .before .before .before .before .before .before .if1 .left, rw (c .before .before .before .before .before .before .before .front-length .ensures) (front-length-three (c .before .before .before .before .before .before .before .before .before .before .args .link) (c .before .before .before .before .before .before .before .before .before .before .args .row)))))
 
 returns-2 : tie.Need-returns-2
 unfolding frameBody require after within counted laid readTold identified
-returns-2 c = rw (← c .before .before .before .before .before .head-length .ensures, ← c .before .before .before .before .before .before .before .before .pre .1, le-leb _ _ (c .before .before .before .before .if1 .left), ← c .before .before .before .id-field .ensures, ← c .before .before .kind-of .ensures, c .enum-told .given .1) (refl, refl)
+returns-2 c = rw (← c .before .before .before .before .before .front-length .ensures, ← c .before .before .before .before .before .before .before .before .pre .1, le-leb _ _ (c .before .before .before .before .if1 .left), ← c .before .before .before .id-field .ensures, ← c .before .before .kind-of .ensures, c .enum-told .given .1) (refl, refl)
 
 same-length : tie.Need-same-length
 same-length c = c .before .before .read-data .kept .1 .1 .1 .1 .1 .1 .0
 
 returns-3 : tie.Need-returns-3
 unfolding frameBody require after identified
-returns-3 c = rw (← c .before .before .before .before .before .before .before .before .before .before .head-length .ensures, ← c .before .before .before .before .before .before .before .before .before .before .before .before .before .pre .1, le-leb _ _ (c .before .before .before .before .before .before .before .before .before .if1 .left), ← c .before .before .before .before .before .before .before .before .id-field .ensures, ← c .before .before .before .before .before .before .before .kind-of .ensures, c .before .before .before .before .before .kind .given .1) (c .before .before .read-data .ensures)
+returns-3 c = rw (← c .before .before .before .before .before .before .before .before .before .before .front-length .ensures, ← c .before .before .before .before .before .before .before .before .before .before .before .before .before .pre .1, le-leb _ _ (c .before .before .before .before .before .before .before .before .before .if1 .left), ← c .before .before .before .before .before .before .before .before .id-field .ensures, ← c .before .before .before .before .before .before .before .kind-of .ensures, c .before .before .before .before .before .kind .given .1) (c .before .before .read-data .ensures)
 
 pub read-frame-spec : {M : Type 1} → statement M
 read-frame-spec =
     tie.close
     (tie.spec
-    head-length-requires
+    front-length-requires
     returns
     id-field-requires
     kind-of-requires

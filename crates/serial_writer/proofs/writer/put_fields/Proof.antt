@@ -7,18 +7,18 @@ use native.Mathlib.Omega.{arith}
 use denote.Ref.{now}
 use lib.ListN.{length}
 use Rattle.stuffing.specs.Stuffing.{doubled}
-use Rattle.serial.specs.Frames.{rowOf, headFields}
+use Rattle.serial.specs.Frames.{rowOf, frontFields}
 use Rattle.stuffing.proofs.Doubling.{length-first}
 use Rattle.serial_writer.proofs.Putting.{put-doubled}
 use Rattle.serial_writer.proofs.Writing.{fields-none, fields-one, fields-all}
 use Rattle.serial_writer.proofs.writer.put_fields.Statement.{statement}
 use Rattle.serial_writer.proofs.writer.put_fields.Tie as tie
 
-one : (c : tie.Then2) → headFields (c .before .before .before .before .before .args .link) (rowOf (c .before .before .before .before .before .args .message .kind)) (c .before .before .before .before .before .args .message) ≡ c .before .before .before .before .before .args .message .id ∷ []
-one c = fields-one (c .before .before .before .before .before .args .link) (c .before .before .before .before .before .args .message) _ _ (c .before .before .before .row-of .ensures) (c .before .before .head-length .ensures) (c .if2 .taken)
+one : (c : tie.Then2) → frontFields (c .before .before .before .before .before .args .link) (rowOf (c .before .before .before .before .before .args .message .kind)) (c .before .before .before .before .before .args .message) ≡ c .before .before .before .before .before .args .message .id ∷ []
+one c = fields-one (c .before .before .before .before .before .args .link) (c .before .before .before .before .before .args .message) _ _ (c .before .before .before .row-of .ensures) (c .before .before .front-length .ensures) (c .if2 .taken)
 
-all : (c : tie.Else2) → let m = c .before .before .before .before .before .args .message in headFields (c .before .before .before .before .before .args .link) (rowOf (m .kind)) m ≡ m .id ∷ m .source ∷ m .destination ∷ []
-all c = fields-all (c .before .before .before .before .before .args .link) (c .before .before .before .before .before .args .message) _ _ (c .before .before .before .row-of .ensures) (c .before .before .head-length .ensures) (c .before .if1 .left) (c .if2 .left)
+all : (c : tie.Else2) → let m = c .before .before .before .before .before .args .message in frontFields (c .before .before .before .before .before .args .link) (rowOf (m .kind)) m ≡ m .id ∷ m .source ∷ m .destination ∷ []
+all c = fields-all (c .before .before .before .before .before .args .link) (c .before .before .before .before .before .args .message) _ _ (c .before .before .before .row-of .ensures) (c .before .before .front-length .ensures) (c .before .if1 .left) (c .if2 .left)
 
 -- Room for all three, each as it is doubled.
 room : (c : tie.Else2) → let m = c .before .before .before .before .before .args .message in c .before .before .before .before .before .args .at + length (doubled (m .id ∷ [])) + length (doubled (m .source ∷ [])) + length (doubled (m .destination ∷ [])) ≤ length (now (c .before .before .before .before .before .args .out))
@@ -29,12 +29,12 @@ room c =
 row-of-requires : tie.Need-row-of-requires
 row-of-requires c κs = search needs
 
-head-length-requires : tie.Need-head-length-requires
-head-length-requires c κs = search needs
+front-length-requires : tie.Need-front-length-requires
+front-length-requires c κs = search needs
 
 returns : tie.Need-returns
 unfolding doubled
-returns c = rw (fields-none (c .before .before .before .before .args .link) (c .before .before .before .before .args .message) _ _ (c .before .before .row-of .ensures) (c .before .head-length .ensures) (c .if1 .taken)) (omega arith, refl)
+returns c = rw (fields-none (c .before .before .before .before .args .link) (c .before .before .before .before .args .message) _ _ (c .before .before .row-of .ensures) (c .before .front-length .ensures) (c .if1 .taken)) (omega arith, refl)
 
 put-requires : tie.Need-put-requires
 put-requires c κs = rw (one (c .before)) at (c .before .before .before .before .before .before .pre)
@@ -69,7 +69,7 @@ put-fields-spec =
     tie.close
     (tie.spec
     row-of-requires
-    head-length-requires
+    front-length-requires
     returns
     put-requires
     same-length

@@ -6,14 +6,14 @@ use denote.Ref.{now}
 use lib.ListN.{length, length-set}
 use Rattle.message.specs.Body.{errorBytes}
 use Rattle.stuffing.specs.Stuffing.{doubled}
-use Rattle.serial.specs.Frames.{rowOf, headFields, frameBytes}
+use Rattle.serial.specs.Frames.{rowOf, frontFields, frameBytes}
 use Rattle.serial.proofs.Lengths.{frame-size}
 use Rattle.serial_writer.proofs.Writing.{Stored, frame-stored}
 use Rattle.serial_writer.proofs.writer.put_frame.Statement.{statement}
 use Rattle.serial_writer.proofs.writer.put_frame.Tie as tie
 
 -- Room for the four bytes of the start and the tail, and for what stands between them as it is doubled.
-room : (c : tie.Start) → let m = c .args .message in 4 + length (doubled (headFields (c .args .link) (rowOf (m .kind)) m)) + length (doubled (errorBytes m)) + length (doubled (now (c .args .payload))) ≤ length (now (c .args .out))
+room : (c : tie.Start) → let m = c .args .message in 4 + length (doubled (frontFields (c .args .link) (rowOf (m .kind)) m)) + length (doubled (errorBytes m)) + length (doubled (now (c .args .payload))) ≤ length (now (c .args .out))
 room c = rw (frame-size (c .args .link) (c .args .message) (now (c .args .payload))) at (c .pre)
 
 -- What is stored once the payload is put: all but the tail.

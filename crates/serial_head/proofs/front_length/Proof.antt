@@ -1,9 +1,9 @@
 -- Carried by the cases of link and row: each arm gives its entry of the table.
-use Rattle.serial_head.proofs.head_length.Statement.{statement}
-use Rattle.serial_head.proofs.head_length.Tie as tie
+use Rattle.serial_head.proofs.front_length.Statement.{statement}
+use Rattle.serial_head.proofs.front_length.Tie as tie
 
-pub head-length-spec : {M : Type 1} → statement M
-head-length-spec =
+pub front-length-spec : {M : Type 1} → statement M
+front-length-spec =
     tie.close
     (tie.spec
     (λ c. c .match .keys1) (λ c. c .match2 .keys1) (λ c. c .match2 .keys2) (λ c. c .match2 .keys3) (λ c. c .match2 .keys4)
