@@ -6,7 +6,7 @@ use Rattle.file.proofs.size_legal.Tie as tie
 
 returns : tie.Need-returns
 unfolding sizeLegal
-returns c = rw (le-leb _ _ (c .if1 .taken))
+returns c = rw (le-leb 1 _ (c .if1 .taken))
 
 returns-2 : tie.Need-returns-2
 unfolding sizeLegal
