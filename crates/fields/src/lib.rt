@@ -1,10 +1,9 @@
 // Document 01's number of a refusal, the number of an error byte, and the fields that a message carries. The rules are definitions of
 // `message`: `Answer` (the refusals' numbers), `Body` (the error byte) and `Kinds` (what a kind carries).
-ghost use mathlib.Core.Bool.{true};
 ghost use mathlib.Core.Path.{_≡_};
 ghost use Rattle.message.specs.Answer.{number};
 ghost use Rattle.message.specs.Body.{errorNumber};
-ghost use Rattle.message.specs.Kinds.{errorCarried, indexCarried};
+ghost use Rattle.message.specs.Kinds.{kindCarried};
 use message::ErrorByte;
 use message::Message;
 use message::Refusal;
@@ -40,7 +39,7 @@ pub fn error_number(error: ErrorByte) -> u8
 
 // The message with 0 in the fields that its kind does not carry.
 pub fn carried(message: Message) -> Message
-    ensures { λ r. ⌜ r ≡ record { kind = message .kind; id = message .id; source = message .source; destination = message .destination; error = errorCarried true (message .kind) (message .error); index = indexCarried true (message .kind) (message .index) } ⌝ }
+    ensures { λ r. ⌜ r ≡ kindCarried message ⌝ }
 {
     let kind = message.kind;
     let error = message.error;

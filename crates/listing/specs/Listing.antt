@@ -6,7 +6,7 @@ use lib.Dec.{leb, eqb}
 use lib.ListN.{length, take, drop}
 use Rattle.message.specs.Answer.{Answer, refused, counted}
 use Rattle.message.specs.declared.Message.{Message}
-use Rattle.stuffing.specs.Stuffing.{frameScan}
+use Rattle.stuffing.specs.Stuffing.{esc, frameScan}
 use Rattle.stuffing.specs.declared.Stop.{Stop}
 use Rattle.stuffing.specs.declared.Stop.the-variants.{Ended, Broken, Cut}
 use Rattle.serial.specs.Frames.{startRow, frameRead}
@@ -31,7 +31,7 @@ unfoldable pub hunt : ℕ → List ℕ → Found
 hunt at [] = nothing
 hunt at (b ∷ []) = nothing
 hunt at (b ∷ x ∷ s) =
-    cond (eqb b 0x1F) (pair (startRow Uart x) (frame at (b ∷ x ∷ s)) (hunt (at + 2) s)) (hunt (at + 1) (x ∷ s))
+    cond (eqb b esc) (pair (startRow Uart x) (frame at (b ∷ x ∷ s)) (hunt (at + 2) s)) (hunt (at + 1) (x ∷ s))
 
 -- How many bytes a frame has, from its ESC on: to behind its tail, to the ESC that breaks it off, or to the input's end. An ESC that
 -- breaks it off is left to the hunt, for which it begins a new frame or is one of a pair.

@@ -1,11 +1,10 @@
 -- The data of a message as it stands on UART, RS485 and CSP (document 01, "The two serial links"): what tells the error, then the payload.
 use Prim.Native.Nat.{ℕ}
-use mathlib.Core.Bool.{true}
 use mathlib.Core.List.{List, [], _∷_, _++_}
 use lib.ListN.{length, getD, take, drop}
 use Rattle.message.specs.Answer.{Answer, given, after}
 use Rattle.message.specs.Checks.{bodyChecks}
-use Rattle.message.specs.Kinds.{errorLength, errorCarried, indexCarried}
+use Rattle.message.specs.Kinds.{errorLength, kindCarried}
 use Rattle.message.specs.declared.ErrorByte.{ErrorByte}
 use Rattle.message.specs.declared.ErrorByte.the-variants.{Told, NotTold}
 use Rattle.message.specs.declared.Kind.{Kind}
@@ -27,14 +26,7 @@ bodyBytes m p = errorBytes m ++ p
 -- The message of a kind, an ID, addresses and data.
 unfoldable pub bodyMessage : Kind → ℕ → ℕ → ℕ → List ℕ → Message
 bodyMessage k id s t d =
-    record {
-      kind = k;
-      id = id;
-      source = s;
-      destination = t;
-      error = errorCarried true k (Told (getD d 0 0));
-      index = indexCarried true k (getD d 1 0);
-    }
+    kindCarried (record { kind = k; id = id; source = s; destination = t; error = Told (getD d 0 0); index = getD d 1 0 })
 
 -- Reading: 5, 6, 7, then the message and its payload.
 unfoldable pub bodyRead : Kind → ℕ → ℕ → ℕ → List ℕ → Answer Message (List ℕ)

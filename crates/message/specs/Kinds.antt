@@ -1,7 +1,7 @@
 -- The seven kinds: which IDs, payload lengths and error bytes each has (document 01, "Messages"), and its type (document 01, "CAN and CSP"). Then
 -- which fields of a message arrive.
 use Prim.Native.Nat.{ℕ}
-use mathlib.Core.Bool.{Bool, _&&_, cond}
+use mathlib.Core.Bool.{Bool, true, _&&_, cond}
 use lib.Dec.{leb, eqb}
 use Rattle.message.specs.declared.ErrorByte.{ErrorByte}
 use Rattle.message.specs.declared.ErrorByte.the-variants.{Told, NotTold}
@@ -98,6 +98,18 @@ errorCarried errors k e = cond errors (cond (leb 1 (errorLength k)) e (Told 0)) 
 
 unfoldable pub indexCarried : Bool → Kind → ℕ → ℕ
 indexCarried errors k i = cond (errors && leb 2 (errorLength k)) i 0
+
+-- What a kind carries of a message, on a link that carries every field: 0 stands in the others.
+abbrev pub kindCarried : Message → Message
+kindCarried m =
+    record {
+      kind = m .kind;
+      id = m .id;
+      source = m .source;
+      destination = m .destination;
+      error = errorCarried true (m .kind) (m .error);
+      index = indexCarried true (m .kind) (m .index);
+    }
 
 -- "Messages": "Fields that a link or a kind doesn't carry read as 0", and an event's ID "reads as 255". So a message arrives over a link that
 -- carries addresses or not, and what tells the error or not.

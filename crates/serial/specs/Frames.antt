@@ -11,7 +11,7 @@ use Rattle.message.specs.declared.Carries.{Carries}
 use Rattle.message.specs.declared.Kind.{Kind}
 use Rattle.message.specs.declared.Kind.the-variants as Kind·of
 use Rattle.message.specs.declared.Message.{Message}
-use Rattle.stuffing.specs.Stuffing.{doubled, scan}
+use Rattle.stuffing.specs.Stuffing.{esc, tailByte, doubled, scan}
 use Rattle.stuffing.specs.declared.Stop.{Stop}
 use Rattle.stuffing.specs.declared.Stop.the-variants.{Ended, Broken, Cut}
 use Rattle.serial.specs.declared.IdKind.{IdKind}
@@ -125,7 +125,7 @@ started l (StartRow·of.Known r) s = closed l r (scan s .stop) (scan s .passed) 
 -- "Reading a serial frame: the first fault from the left among 1, 2, 3, 4; then 6 where ID or address bytes are missing, 5, 6, 7."
 unfoldable pub frameRead : SerialLink → List ℕ → Answer Message (List ℕ)
 frameRead l b =
-    after (require (leb 1 (length b)) 1 (require (eqb (getD b 0 0) 0x1F) 2 (require (leb 2 (length b)) 1 passed)))
+    after (require (leb 1 (length b)) 1 (require (eqb (getD b 0 0) esc) 2 (require (leb 2 (length b)) 1 passed)))
     (started l (startRow l (getD b 1 0)) (drop 2 b))
 
 -- 9: an event on RS485; a nack that is "not told" on both.
@@ -147,7 +147,7 @@ frontFields Rs485 Event m = []
 -- "A frame is ESC, a start byte, the ID, on RS485 source and destination, then data, then ESC 0xFF."
 unfoldable pub frameBytes : SerialLink → Message → List ℕ → List ℕ
 frameBytes l m p =
-    0x1F ∷ startByte l (rowOf (m .kind)) ∷ (doubled (frontFields l (rowOf (m .kind)) m ++ bodyBytes m p) ++ (0x1F ∷ 0xFF ∷ []))
+    esc ∷ startByte l (rowOf (m .kind)) ∷ (doubled (frontFields l (rowOf (m .kind)) m ++ bodyBytes m p) ++ (esc ∷ tailByte ∷ []))
 
 -- "Refusal numbers", writing: 9, 5, 6, 7.
 unfoldable pub frameWrite : SerialLink → Message → List ℕ → Answer Unit (List ℕ)

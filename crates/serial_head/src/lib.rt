@@ -1,7 +1,7 @@
-// What document 01 settles for each serial link and both directions: ESC and the tail, the start bytes, what stands in front of the data, and the
-// source.
-// The rules are `serial`'s.
+// What document 01 settles for each serial link and both directions: ESC and the tail, the start bytes, what stands in front of the data,
+// and the source. The rules are `serial`'s, those of ESC and the tail `stuffing`'s.
 ghost use mathlib.Core.Path.{_≡_};
+ghost use Rattle.stuffing.specs.Stuffing.{esc, tailByte};
 ghost use Rattle.serial.specs.Frames.{startRow, frontLength, sourceLegal};
 use serial::Row;
 use serial::SerialLink;
@@ -11,7 +11,7 @@ use stuffing::Uart;
 
 // The ESC of a link. Both have the same.
 pub fn escape(link: SerialLink) -> u8
-    ensures { λ r. ⌜ r ≡ 0x1F ⌝ }
+    ensures { λ r. ⌜ r ≡ esc ⌝ }
 {
     match link {
         SerialLink::Uart => Uart::ESC,
@@ -21,7 +21,7 @@ pub fn escape(link: SerialLink) -> u8
 
 // The byte behind the last ESC of a frame. Both links have the same.
 pub fn tail(link: SerialLink) -> u8
-    ensures { λ r. ⌜ r ≡ 0xFF ⌝ }
+    ensures { λ r. ⌜ r ≡ tailByte ⌝ }
 {
     match link {
         SerialLink::Uart => Uart::TAIL,

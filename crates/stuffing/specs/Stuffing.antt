@@ -8,10 +8,17 @@ use lib.ListN.{drop}
 use Rattle.stuffing.specs.declared.Stop.{Stop}
 use Rattle.stuffing.specs.declared.Stop.the-variants.{Ended, Broken, Cut}
 
+-- "ESC is 0x1F", and a frame ends with "ESC 0xFF".
+abbrev pub esc : ℕ
+esc = 0x1F
+
+abbrev pub tailByte : ℕ
+tailByte = 0xFF
+
 -- Writing: every 0x1F twice.
 unfoldable pub doubled : List ℕ → List ℕ
 doubled [] = []
-doubled (b ∷ s) = cond (eqb b 0x1F) (0x1F ∷ 0x1F ∷ doubled s) (b ∷ doubled s)
+doubled (b ∷ s) = cond (eqb b esc) (esc ∷ esc ∷ doubled s) (b ∷ doubled s)
 
 -- How a scan from inside a frame stopped, how many bytes it passed, and the body that they stand for. `Ended`: the tail, which it
 -- passed. `Broken`: before an ESC with any byte but ESC or FF. `Cut`: where the input ends inside the frame, before a last ESC alone.
@@ -29,13 +36,13 @@ more b n r = record { stop = r .stop; passed = n + r .passed; body = b ∷ r .bo
 
 -- ESC and the byte behind it, with what the scan gives from there on.
 unfoldable pub escaped : ℕ → Scan → Scan
-escaped x r = cond (eqb x 0x1F) (more 0x1F 2 r) (cond (eqb x 0xFF) (stopped Ended 2) (stopped Broken 0))
+escaped x r = cond (eqb x esc) (more esc 2 r) (cond (eqb x tailByte) (stopped Ended 2) (stopped Broken 0))
 
 -- From inside a frame to its end, by steps of one byte or of ESC with another.
 unfoldable pub scan : List ℕ → Scan
 scan [] = stopped Cut 0
-scan (b ∷ []) = cond (eqb b 0x1F) (stopped Cut 0) (more b 1 (stopped Cut 0))
-scan (b ∷ x ∷ s) = cond (eqb b 0x1F) (escaped x (scan s)) (more b 1 (scan (x ∷ s)))
+scan (b ∷ []) = cond (eqb b esc) (stopped Cut 0) (more b 1 (stopped Cut 0))
+scan (b ∷ x ∷ s) = cond (eqb b esc) (escaped x (scan s)) (more b 1 (scan (x ∷ s)))
 
 -- The scan of a frame, behind ESC and its start byte.
 abbrev pub frameScan : List ℕ → Scan

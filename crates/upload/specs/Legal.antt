@@ -28,7 +28,7 @@ pub data Legal (file : List ℕ) : World → Place → List Call → List Bool �
   -- "Refused calls, whatever store, file or output each is lent, may stand between any two others."
   refuses : {w : World} {p : Place} {c : Call} {h : List Call} {rs : List Bool}
       → isRefused file w c ≡ true → Legal file (does file w c) p h rs → Legal file w p (c ∷ h) rs
-  -- "A round is the unit's work step, done or not, (or again, where a round that a refused call broke off is taken up anew)
+  -- It may come again, as where a round is begun anew that a refused call broke off. "A round is the unit's work step, done or not,
   workDone : {w : World} {d : Bool} {h : List Call} {rs : List Bool} → isRunning (w .sender .state) ≡ true
       → isRefused file w (works shared) ≡ false → Legal file (does file w (works shared)) (begun true) h rs → Legal file w (begun d) (works shared ∷ h) rs
   -- then one exchange":
