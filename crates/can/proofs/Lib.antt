@@ -1,5 +1,5 @@
-pub mod Checks
 pub mod Frames
 pub mod Lengths
+pub mod Order
 pub mod RoundTrip
 pub mod Series

@@ -13,7 +13,6 @@ use Rattle.message.specs.Kinds.{isEvent, typeNumber}
 use Rattle.message.proofs.Answers.{after-passed}
 use Rattle.message.proofs.Checks.{require-passed, both-true}
 use Rattle.can.specs.Can.{seriesType, kindOfType, frame, series, typeLegal, zeros, firstFits, firstChecks, allFrames, laterFits, sameBytes, laterChecks, prepend, laterFrames}
-use Rattle.can.proofs.Checks.{later-dlc}
 use Rattle.can.proofs.Frames.{same-bytes, frame-back, used-count}
 
 -- What a payload in front leaves behind it.
@@ -24,6 +23,12 @@ prepend-given d (given r q) rest p e =
     let hr : r ≡ rest = cc in
     let hp : d ++ q ≡ p = cc in
     (q, rw hr, hp)
+
+-- The DLC of a later frame that fits.
+pub later-dlc : (n d : ℕ) → laterFits n d ≡ true → (1 ≤ d) × (d ≤ 8)
+unfolding laterFits
+later-dlc zero d e = let h = both-true (leb 1 d) (leb d 7) e in (leb-true 1 d (h .0), omega (arith, leb-true d 7 (h .1)))
+later-dlc (suc n) d e = (omega (arith, eqb-true d 8 e), omega (arith, eqb-true d 8 e))
 
 -- A later frame that was read: its payload bytes, what follows it, and what that gives.
 pub record Later (i : List ℕ) (n : ℕ) (s rest p : List ℕ) : Type 0 where

@@ -100,13 +100,17 @@ firstFits t n count =
     (cond (leb 7 t) (eqb n 8 && (leb 1 count && leb count 36))
     (eqb n 0))
 
--- A first frame: 2, 6, 7. "The first frame of a series has no count to match."
-unfoldable pub firstChecks : List ℕ → Check
-firstChecks f =
+-- "Within it 2, 6, 7, 10", of a frame at any place: whether its DLC fits there, and what only a later frame is asked.
+abbrev pub frameChecks : List ℕ → Bool → Check → Check
+frameChecks f fits matches =
     require (typeLegal (typeField f)) 2
-    (require (firstFits (typeField f) (dlc f) (getD (dataField f) 7 0)) 6
+    (require fits 6
     (require (zeros (drop (dlc f) (dataField f))) 7
-    passed))
+    matches))
+
+-- "The first frame of a series has no count to match."
+unfoldable pub firstChecks : List ℕ → Check
+firstChecks f = frameChecks f (firstFits (typeField f) (dlc f) (getD (dataField f) 7 0)) passed
 
 -- "Inside a series the DLC is judged by the frame's place in it": 8, or 1..7 in the last, with n frames still to come.
 unfoldable pub laterFits : ℕ → ℕ → Bool
@@ -120,14 +124,10 @@ sameBytes [] (b ∷ s) = false
 sameBytes (a ∷ r) [] = false
 sameBytes (a ∷ r) (b ∷ s) = eqb a b && sameBytes r s
 
--- A later frame, with n frames still to come: 2, 6, 7, 10 (another identifier or a wrong count).
+-- A later frame, with n frames still to come. 10: another identifier or a wrong count.
 unfoldable pub laterChecks : List ℕ → ℕ → List ℕ → Check
 laterChecks i n f =
-    require (typeLegal (typeField f)) 2
-    (require (laterFits n (dlc f)) 6
-    (require (zeros (drop (dlc f) (dataField f))) 7
-    (require (sameBytes (take 4 f) i && eqb (getD (dataField f) (dlc f - 1) 0) n) 10
-    passed)))
+    frameChecks f (laterFits n (dlc f)) (require (sameBytes (take 4 f) i && eqb (getD (dataField f) (dlc f - 1) 0) n) 10 passed)
 
 -- Payload bytes in front of what the later frames give.
 unfoldable pub prepend : List ℕ → Answer (List ℕ) (List ℕ) → Answer (List ℕ) (List ℕ)

@@ -17,9 +17,9 @@ use Rattle.message.specs.declared.Verdict.the-variants.{Passed}
 use Rattle.message.proofs.Answers.{counted-refused}
 use Rattle.message.proofs.Checks.{require-passed}
 use Rattle.can.specs.Can.{typeLegal, zeros, firstFits, firstChecks, laterFits, laterChecks, sameBytes, prepend, laterFrames, allFrames}
-use Rattle.can.proofs.Checks.{first-checks-at, later-dlc}
-use Rattle.can.proofs.Series.{first-dlc, first-count}
+use Rattle.can.proofs.Series.{later-dlc, first-dlc, first-count}
 use Rattle.can_frames.specs.Told.{measured}
+use Rattle.can_frames.proofs.Checks.{first-checks-at}
 
 -- One step of the test of the bytes past the DLC.
 module _ (b : List ℕ) (at : ℕ) where

@@ -2,8 +2,8 @@
 use native.Mathlib.Omega.{arith}
 use borrow.Author.Tests.{not-true, not-false}
 use Rattle.message.specs.Answer.{verdictTold, require}
-use Rattle.can.proofs.Checks.{first-checks-at}
 use borrow.Author.Needs.{needs}
+use Rattle.can_frames.proofs.Checks.{first-checks-at}
 use Rattle.can_frames.proofs.check.first_checks.Statement.{statement}
 use Rattle.can_frames.proofs.check.first_checks.Tie as tie
 

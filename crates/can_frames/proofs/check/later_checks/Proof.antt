@@ -7,8 +7,9 @@ use native.Mathlib.Omega.{arith}
 use borrow.Author.Tests.{not-true, not-false, eq-eqb, ne-eqb}
 use Rattle.message.specs.Answer.{verdictTold, require}
 use Rattle.can.specs.Can.{laterChecks}
-use Rattle.can.proofs.Checks.{later-dlc, later-checks-at}
+use Rattle.can.proofs.Series.{later-dlc}
 use borrow.Author.Needs.{needs}
+use Rattle.can_frames.proofs.Checks.{later-checks-at}
 use Rattle.can_frames.proofs.check.later_checks.Statement.{statement}
 use Rattle.can_frames.proofs.check.later_checks.Tie as tie
 

@@ -1,28 +1,21 @@
--- The checks of a frame by its bytes, in their order: 2, 6, 7, and 10 last. Carried by the laws of `drop`: a byte of the data is a byte of
--- the frame, five further on.
-use Prim.Native.Nat.{ℕ, zero, suc, _+_, _-_, _≤_}
+-- The checks of a frame by its bytes. Carried by the laws of `drop`: a byte of the data is a byte of the frame, five further on.
+use Prim.Native.Nat.{ℕ, _+_, _-_}
 use mathlib.Core.Bool.{true, _&&_}
 use mathlib.Core.List.{List}
 use mathlib.Core.Path.{_≡_}
 use native.Mathlib.Omega.{arith}
-use borrow.Author.Tests.{eqb-true, leb-true}
-use lib.Dec.{leb, eqb}
+use lib.Dec.{eqb}
 use lib.ListN.{getD, take, drop}
 use lib.Seq.{getD-drop, drop-drop}
 use Rattle.message.specs.Answer.{passed, require}
-use Rattle.message.proofs.Checks.{both-true}
 use Rattle.can.specs.Can.{typeLegal, zeros, firstFits, firstChecks, laterFits, laterChecks, sameBytes}
+use Rattle.can.proofs.Series.{later-dlc}
 
 pub first-checks-at : (f : List ℕ)
     → firstChecks f
     ≡ require (typeLegal (getD f 3 0)) 2 (require (firstFits (getD f 3 0) (getD f 4 0) (getD f 12 0)) 6 (require (zeros (drop (5 + getD f 4 0) f)) 7 passed))
 unfolding firstChecks
 first-checks-at f = rw (getD-drop 5 f 7 0, drop-drop (getD f 4 0) 5 f)
-
-pub later-dlc : (n d : ℕ) → laterFits n d ≡ true → (1 ≤ d) × (d ≤ 8)
-unfolding laterFits
-later-dlc zero d e = let h = both-true (leb 1 d) (leb d 7) e in (leb-true 1 d (h .0), omega (arith, leb-true d 7 (h .1)))
-later-dlc (suc n) d e = (omega (arith, eqb-true d 8 e), omega (arith, eqb-true d 8 e))
 
 pub later-checks-at : (i : List ℕ) (n : ℕ) (f : List ℕ) → laterFits n (getD f 4 0) ≡ true
     → laterChecks i n f
