@@ -8,8 +8,7 @@ use native.Mathlib.Omega.{arith}
 use borrow.Author.Tests.{le-leb, lt-leb, ne-eqb, leb-true, eqb-true}
 use lib.Dec.{leb, eqb}
 use lib.ListN.{length, getD, take, drop}
-use Rattle.message.specs.Answer.{Answer, refused, given, passed, failed, require, after}
-use Rattle.message.proofs.Checks.{both-true}
+use Rattle.message.specs.Answer.{refused, given, passed, failed, require, after}
 use Rattle.can.specs.Can.{kindOfType, typeField, dlc, dataField, typeLegal, zeros, firstFits, firstChecks, laterFits, sameBytes, laterChecks, prepend, laterFrames, allFrames, canIdLegal, complete, canRead}
 use Rattle.can.proofs.Frames.{same-bytes}
 

@@ -1,17 +1,23 @@
--- The length of a frame: its parts are doubled one by one.
+-- What a frame doubles: the scan undoes it. Then its length: its parts are doubled one by one.
 use Prim.Native.Nat.{ℕ, _+_}
 use mathlib.Core.List.{List, [], _∷_, _++_, append-assoc}
 use mathlib.Core.Path.{_≡_}
 use native.Mathlib.Omega.{arith}
-use lib.ListN.{length, length-append}
+use lib.ListN.{length, drop, length-append}
 use Rattle.message.specs.Body.{errorBytes, bodyBytes}
 use Rattle.message.specs.declared.Message.{Message}
-use Rattle.stuffing.specs.Stuffing.{doubled}
+use Rattle.stuffing.specs.Stuffing.{doubled, scan}
 use Rattle.stuffing.proofs.Doubling.{doubled-append}
+use Rattle.stuffing.proofs.Scans.{scan-doubled}
 use Rattle.serial.specs.Frames.{startByte, rowOf, frontFields, frameBytes}
 use Rattle.serial.specs.declared.SerialLink.{SerialLink}
 
 module _ (l : SerialLink) (m : Message) (p : List ℕ) where
+  -- "Every 0x1F between head and tail is doubled, the ID and (house) the addresses too": a scan finds all of it again, whatever it is.
+  pub all-doubled : scan (drop 2 (frameBytes l m p)) .body ≡ frontFields l (rowOf (m .kind)) m ++ bodyBytes m p
+  unfolding frameBytes
+  all-doubled = rw (scan-doubled (frontFields l (rowOf (m .kind)) m ++ bodyBytes m p) [])
+
   pub frame-parts : frameBytes l m p ≡ 0x1F ∷ startByte l (rowOf (m .kind)) ∷ (doubled ((frontFields l (rowOf (m .kind)) m ++ errorBytes m) ++ p) ++ (0x1F ∷ 0xFF ∷ []))
   unfolding frameBytes bodyBytes
   frame-parts = rw append-assoc
