@@ -3,11 +3,11 @@ ghost use Prim.Native.Nat.{_≤_};
 ghost use mathlib.Core.Path.{_≡_};
 ghost use lib.ListN.{length};
 ghost use Rattle.device_rules.specs.Commands.{frameDone};
-use device_rules::Device;
+use device_rules::Transfer;
 
-pub(crate) fn frame_done(device: Device, payload: &[u8]) -> Device
+pub(crate) fn frame_done(transfer: Transfer, payload: &[u8]) -> Transfer
     requires { ⌜ length (now payload) ≤ 256 ⌝ }
-    ensures { λ r. ⌜ r ≡ frameDone device (now (payload .entry)) ⌝ }
+    ensures { λ r. ⌜ r ≡ frameDone transfer (now (payload .entry)) ⌝ }
 {
     let mut buffer = [0u8; 256];
     let mut i = 0;
@@ -15,7 +15,7 @@ pub(crate) fn frame_done(device: Device, payload: &[u8]) -> Device
         buffer[i] = payload[i];
         i += 1;
     }
-    let mut next = device;
+    let mut next = transfer;
     next.buffer = buffer;
     next.buffered = payload.len() as u16;
     next

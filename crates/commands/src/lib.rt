@@ -1,5 +1,5 @@
-// The commands of the unit (document 01, "The unit"): what each does to it, a file for each, and a command carried out by its ID.
-mod cancel;
+// The commands of the unit (document 01, "The unit"): what each does to the transfer, a file for each but cancel, which leaves none; and a
+// command carried out by its ID.
 mod frame;
 mod setup;
 mod take;
@@ -8,9 +8,10 @@ ghost use Prim.Native.Nat.{_≤_};
 ghost use mathlib.Core.Path.{_≡_};
 ghost use lib.ListN.{length};
 ghost use Rattle.device_rules.specs.Faults.{commandFault};
-ghost use Rattle.device_rules.specs.Commands.{commandDone, afterCommand};
+ghost use Rattle.device_rules.specs.Commands.{transferDone, commandDone, afterCommand};
 use device_rules::Device;
 use device_rules::Fault;
+use device_rules::Transfer;
 
 // The unit after a command, and what kept the command from being carried out.
 pub struct Commanded {
@@ -33,18 +34,32 @@ pub fn carry_out(device: Device, store: usize, id: u8, payload: &[u8]) -> Comman
     }
 }
 
-// The unit after a command without a fault, by its ID.
+// The unit after a command without a fault: what is not the transfer's stays.
 fn command_done(device: Device, id: u8, payload: &[u8]) -> Device
     requires { ⌜ (id ≡ 20 → length (now payload) ≡ 4) × (id ≡ 22 → length (now payload) ≤ 256) ⌝ }
     ensures { λ r. ⌜ r ≡ commandDone device id (now (payload .entry)) ⌝ }
 {
+    let transfer = device.transfer;
+    let after = transfer_done(transfer, id, payload);
+    let mut next = device;
+    next.transfer = after;
+    next
+}
+
+// The transfer after it, by its ID.
+fn transfer_done(transfer: Transfer, id: u8, payload: &[u8]) -> Transfer
+    requires { ⌜ (id ≡ 20 → length (now payload) ≡ 4) × (id ≡ 22 → length (now payload) ≤ 256) ⌝ }
+    ensures { λ r. ⌜ r ≡ transferDone transfer id (now (payload .entry)) ⌝ }
+{
     match id {
-        20 => setup::setup_done(
-            device,
-            little_endian::u32_from_bytes(payload[0], payload[1], payload[2], payload[3]),
-        ),
-        21 => take::take_done(device),
-        22 => frame::frame_done(device, payload),
-        _ => cancel::cancel_done(device),
+        20 => setup::new_transfer(little_endian::u32_from_bytes(
+            payload[0],
+            payload[1],
+            payload[2],
+            payload[3],
+        )),
+        21 => take::take_done(transfer),
+        22 => frame::frame_done(transfer, payload),
+        _ => device_state::no_transfer(),
     }
 }

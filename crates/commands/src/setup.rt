@@ -1,22 +1,18 @@
-// Setup: opens the unit for a file of a size.
+// Setup: a new transfer, of a file of this size.
 ghost use mathlib.Core.Path.{_≡_};
-ghost use Rattle.device_rules.specs.Commands.{setupDone};
-use device_rules::Device;
+ghost use Rattle.device_rules.specs.Commands.{newTransfer};
 use device_rules::Phase;
+use device_rules::Transfer;
 
-pub(crate) fn setup_done(device: Device, size: u32) -> Device
-    ensures { λ r. ⌜ r ≡ setupDone device size ⌝ }
+pub(crate) fn new_transfer(size: u32) -> Transfer
+    ensures { λ r. ⌜ r ≡ newTransfer size ⌝ }
 {
-    let link = device.link;
-    let buffer = device.buffer;
-    Device {
-        link,
-        own: device.own,
+    Transfer {
         phase: Phase::Open,
         number: 0xFFFF,
-        buffer,
+        buffer: [0u8; 256],
         buffered: 0,
-        pending: device.pending,
+        pending: false,
         size,
         stored: 0,
     }

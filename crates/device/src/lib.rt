@@ -6,6 +6,7 @@ pub use device_rules::Device;
 pub use device_rules::Outcome;
 pub use device_rules::Phase;
 pub use device_rules::Received;
+pub use device_rules::Transfer;
 pub use device_rules::UnitAnswer;
 pub use device_state::make;
 pub use receiver::receive;

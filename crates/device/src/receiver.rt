@@ -13,6 +13,7 @@ use device_rules::Fault;
 use device_rules::Outcome;
 use device_rules::Phase;
 use device_rules::Received;
+use device_rules::Transfer;
 use link::Link;
 use message::ErrorByte;
 use message::Kind;
@@ -110,7 +111,8 @@ fn telemetry_reply(device: Device, message: Message, out: &mut [u8]) -> Received
     ensures { λ _. ⌜ now (out .exit) ≡ laid (within (now (out .entry)) (telemetryReply device message)) (now (out .entry)) ⌝ }
 {
     if message.id == 150 {
-        let info = info_bytes(device);
+        let transfer = device.transfer;
+        let info = info_bytes(transfer);
         let answer = answer_to(device, message, Kind::TelemetryResponse, 0, 0);
         return send(device, device, answer, &info, out);
     }
@@ -164,15 +166,15 @@ fn answer_source(link: Link, own: u8, request: Message) -> u8
 }
 
 // Number, size and checksum of the buffered frame, and the flags.
-fn info_bytes(device: Device) -> [u8; 7]
-    ensures { λ r. ⌜ r ≡ infoBytes device ⌝ }
+fn info_bytes(transfer: Transfer) -> [u8; 7]
+    ensures { λ r. ⌜ r ≡ infoBytes transfer ⌝ }
 {
-    let buffer = device.buffer;
-    let length = device_state::frame_length(device);
-    let number = little_endian::u16_to_bytes(device.number);
+    let buffer = transfer.buffer;
+    let length = device_state::frame_length(transfer);
+    let number = little_endian::u16_to_bytes(transfer.number);
     let size = little_endian::u16_to_bytes(length as u16);
     let sum = little_endian::u16_to_bytes(checksum::checksum(&buffer[..length]));
-    let phase = device.phase;
+    let phase = transfer.phase;
     [
         number[0],
         number[1],

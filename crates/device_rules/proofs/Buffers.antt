@@ -1,4 +1,4 @@
--- What a unit's type says of its frame buffer: it has 256 bytes, and a frame no more.
+-- What a transfer's type says of its frame buffer: it has 256 bytes, and a frame no more.
 use Prim.Native.Nat.{ℕ, zero, suc, _≤_}
 use mathlib.Core.List.{List, [], _∷_}
 use mathlib.Core.Path.{_≡_, refl, sym, _∙_}
@@ -7,22 +7,26 @@ use lib.ListN.{length, take, length-map, length-take}
 use mir.Val.{Val}
 use denote.Laws.{Is}
 use Rattle.device_rules.specs.Device.{frame}
-use Rattle.device_rules.specs.declared.Device.{Device}
-use Rattle.device_rules.proofs.Device.{the-row}
+use Rattle.device_rules.specs.declared.Transfer.{Transfer}
+use Rattle.device_rules.proofs.Transfer.{the-row}
 
 take-of-take : (n : ℕ) (l : List ℕ) → take (length (take n l)) l ≡ take n l
 take-of-take zero l = refl
 take-of-take (suc n) [] = refl
 take-of-take (suc n) (x ∷ l) = rw (take-of-take n l)
 
-pub buffer-length : (d : Device) {vs : List Val} → Is the-row d vs → length (d .buffer) ≡ 256
-buffer-length d g = sym (length-map (d .buffer) (λ (n : ℕ). n)) ∙ g .1 .1 .1 .1 .1 .1 .0 .1 .0 .1
+pub buffer-length : (t : Transfer) {vs : List Val} → Is the-row t vs → length (t .buffer) ≡ 256
+buffer-length t g = sym (length-map (t .buffer) (λ (n : ℕ). n)) ∙ g .1 .1 .1 .1 .0 .1 .0 .1
 
-pub frame-most : (d : Device) {vs : List Val} → Is the-row d vs → length (frame d) ≤ 256
+-- The frame is of the buffer:
+pub frame-within : (t : Transfer) → length (frame t) ≤ length (t .buffer)
 unfolding frame
-frame-most d g = rw length-take (omega (arith, buffer-length d g))
+frame-within t = rw length-take (omega arith)
 
--- As many bytes of the buffer as the frame has are the frame.
-pub frame-of-buffer : (d : Device) → take (length (frame d)) (d .buffer) ≡ frame d
+-- as many bytes of it as the frame has.
+pub frame-of-buffer : (t : Transfer) → take (length (frame t)) (t .buffer) ≡ frame t
 unfolding frame
-frame-of-buffer d = take-of-take (d .buffered) (d .buffer)
+frame-of-buffer t = take-of-take (t .buffered) (t .buffer)
+
+pub frame-most : (t : Transfer) {vs : List Val} → Is the-row t vs → length (frame t) ≤ 256
+frame-most t g = omega (arith, frame-within t, buffer-length t g)

@@ -7,29 +7,27 @@ use native.Mathlib.Omega.{arith}
 use borrow.Author.Tests.{eq-eqb, ne-eqb, le-ltb}
 use lib.Dec.{eqb}
 use lib.ListN.{length, take}
-use Rattle.little_endian.specs.LittleEndian.{fromBytes, toBytes}
+use Rattle.little_endian.specs.LittleEndian.{toBytes}
 use Rattle.little_endian.proofs.Laws.{to-length, from-to}
-use Rattle.file.specs.File.{sizeLegal, frameCount}
-use Rattle.link.specs.declared.Link.{Link}
-use Rattle.device_rules.specs.Device.{isIdle, frame}
+use Rattle.file.specs.File.{frameCount}
+use Rattle.device_rules.specs.Device.{isIdle, frame, withTransfer}
 use Rattle.device_rules.specs.declared.Device.{Device}
+use Rattle.device_rules.specs.declared.Transfer.{Transfer}
 use Rattle.device_rules.specs.declared.Phase.the-variants as Phase·of
-use Rattle.device_rules.specs.Faults.{fault, setupFault, bufferFault, numberFault, takeFault, frameFault, commandFault}
+use Rattle.device_rules.specs.Faults.{fault, bufferFault, numberFault, takeFault, frameFault, commandFault}
 use Rattle.device_rules.specs.declared.Fault.the-variants.{None, Nack}
 
--- A unit that has stored i frames of a file of n bytes; its buffer, the count of it and whether it is pending are given apart.
-abbrev pub unitAt : Link → ℕ → ℕ → ℕ → List ℕ → ℕ → Bool → Device
-unitAt l own n i buffer buffered pending =
+-- A transfer that has stored i frames of a file of this size; its buffer, the count of it and whether it is pending are given apart.
+abbrev pub transferAt : (size i : ℕ) → List ℕ → ℕ → Bool → Transfer
+transferAt size i buffer buffered pending =
     record {
-      link = l;
-      own = own;
-      phase = cond (eqb i (frameCount n)) Phase·of.Finished Phase·of.Open;
+      phase = cond (eqb i (frameCount size)) Phase·of.Finished Phase·of.Open;
       number = (i + 65535) % 65536;
       buffer = buffer;
       buffered = buffered;
       pending = pending;
-      size = n;
-      stored = min (256 * i) n;
+      size = size;
+      stored = min (256 * i) size;
     }
 
 -- It is open or finished, never idle.
@@ -37,25 +35,19 @@ never-idle : (b : Bool) → isIdle (cond b Phase·of.Finished Phase·of.Open) �
 never-idle true = refl
 never-idle false = refl
 
-module _ (l : Link) (own n i store : ℕ) (buffer : List ℕ) (buffered : ℕ) where
-  -- A finished unit can be set up again.
-  pub setup-again : (p : List ℕ) → i ≡ frameCount n → length p ≡ 4 → sizeLegal (fromBytes p) ≡ true → fromBytes p ≤ store
-      → commandFault (unitAt l own n i buffer buffered false) store 20 p ≡ None
-  unfolding commandFault setupFault fault
-  setup-again p e four legal fits = simp (eq-eqb (length p) 4 four, eq-eqb i (frameCount n) e, legal, le-ltb store (fromBytes p) fits)
-
+module _ (d : Device) (n i store : ℕ) (buffer : List ℕ) (buffered : ℕ) where
   -- A frame is taken while one is to come and none is pending.
-  pub frame-taken : (p : List ℕ) → i < frameCount n → 1 ≤ length p → length p ≤ 256 → commandFault (unitAt l own n i buffer buffered false) store 22 p ≡ None
+  pub frame-taken : (p : List ℕ) → i < frameCount n → 1 ≤ length p → length p ≤ 256 → commandFault (withTransfer d (transferAt n i buffer buffered false)) store 22 p ≡ None
   unfolding commandFault frameFault fault
   frame-taken p h some most = rw (ne-eqb (length p) 0 (omega arith), le-ltb 256 (length p) most, ne-eqb i (frameCount n) (omega arith))
 
   -- Take frame i is carried out where frame i is in the buffer,
   pub take-taken : i < frameCount n → i < 65535 → 1 ≤ length (take buffered buffer) → length (take buffered buffer) ≤ n - min (256 * i) n
-      → commandFault (unitAt l own n i buffer buffered false) store 21 (toBytes 2 i) ≡ None
+      → commandFault (withTransfer d (transferAt n i buffer buffered false)) store 21 (toBytes 2 i) ≡ None
   unfolding commandFault takeFault numberFault bufferFault fault frame
   take-taken h small some fits =
       let next : ((i + 65535) % 65536 + 1) % 65536 ≡ i = omega arith in
-      rw (
+      simp (
         to-length 2 i,
         from-to 2 i (omega arith),
         ne-eqb i (frameCount n) (omega arith),
@@ -67,15 +59,15 @@ module _ (l : Link) (own n i store : ℕ) (buffer : List ℕ) (buffered : ℕ) w
       )
 
   -- nack 6 while it is pending,
-  pub take-pending : commandFault (unitAt l own n i buffer buffered true) store 21 (toBytes 2 i) ≡ Nack 6 0
+  pub take-pending : commandFault (withTransfer d (transferAt n i buffer buffered true)) store 21 (toBytes 2 i) ≡ Nack 6 0
   unfolding commandFault takeFault fault
   take-pending = simp (to-length 2 i, never-idle (eqb i (frameCount n)))
 
   -- and nack 3 once it is stored: the unit is finished, or waits for the next number.
-  pub take-stored : i < 65535 → commandFault (unitAt l own n (i + 1) buffer buffered false) store 21 (toBytes 2 i) ≡ Nack 3 0
+  pub take-stored : i < 65535 → commandFault (withTransfer d (transferAt n (i + 1) buffer buffered false)) store 21 (toBytes 2 i) ≡ Nack 3 0
   unfolding commandFault takeFault numberFault fault
   take-stored small = by (eqb (i + 1) (frameCount n)) refl
     where
-      by : (b : Bool) → eqb (i + 1) (frameCount n) ≡ b → commandFault (unitAt l own n (i + 1) buffer buffered false) store 21 (toBytes 2 i) ≡ Nack 3 0
-      by true e = rw (to-length 2 i, e)
-      by false e = rw (to-length 2 i, e, from-to 2 i (omega arith), ne-eqb i 0xFFFF (omega arith), ne-eqb i (((i + 1 + 65535) % 65536 + 1) % 65536) (omega arith))
+      by : (b : Bool) → eqb (i + 1) (frameCount n) ≡ b → commandFault (withTransfer d (transferAt n (i + 1) buffer buffered false)) store 21 (toBytes 2 i) ≡ Nack 3 0
+      by true e = simp (to-length 2 i, e)
+      by false e = simp (to-length 2 i, e, from-to 2 i (omega arith), ne-eqb i 0xFFFF (omega arith), ne-eqb i (((i + 1 + 65535) % 65536 + 1) % 65536) (omega arith))

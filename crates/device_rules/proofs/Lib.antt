@@ -1,3 +1,4 @@
+pub mod Order
 pub mod Buffers
 pub mod Payloads
 pub mod Faults

@@ -1,23 +1,50 @@
--- What is told of a work step, and what the unit and the store are then, in each of its cases.
-use Prim.Native.Nat.{ℕ, _+_, _≤_}
-use mathlib.Core.Bool.{Bool, true, false, cond}
-use mathlib.Core.List.{List, [], _++_}
-use mathlib.Core.Path.{_≡_, refl, sym, ap, _∙_}
+-- The work step: that a pending frame is stored, by the two tests and the seam of the store; then what is told of a step, and what unit
+-- and store are then, in each case.
+use Prim.Native.Nat.{ℕ, _+_, _%_, _≤_}
+use mathlib.Core.Bool.{true, false}
+use mathlib.Core.List.{List, [], _++_, append-assoc}
+use mathlib.Core.Path.{_≡_, refl, sym}
 use native.Mathlib.Nat.{add-zero}
 use native.Mathlib.Omega.{arith}
-use borrow.Author.Tests.{leb-true}
+use borrow.Author.Tests.{leb-true, le-leb}
 use lib.Dec.{leb}
-use lib.ListN.{length, take, drop, length-drop, take-append-drop}
-use lib.Seq.{drop-drop}
-use Rattle.message.specs.Answer.{refused, given, passed, require, after, within, laid, written}
+use lib.ListN.{length, take, drop, replicate, length-append, length-drop, take-append-drop}
+use lib.Seq.{length-take-le, take-append-seam, drop-append-seam, drop-drop}
+use Rattle.message.specs.Answer.{refused, given, require, after, within, laid, written}
 use Rattle.message.specs.declared.Refusal.the-variants.{OutputTooShort}
 use Rattle.message.specs.declared.Verdict.{Verdict}
 use Rattle.message.specs.declared.Verdict.the-variants.{Passed, Refused}
 use Rattle.message.proofs.Answers.{long-enough}
 use Rattle.message.proofs.Checks.{both-true}
-use Rattle.device_rules.specs.Device.{frame, unitTold}
+use Rattle.device_rules.specs.Device.{frame, withTransfer, unitTold}
 use Rattle.device_rules.specs.Work.{frameStored, hasRoom, work, worked, afterWork, storeAfter}
 use Rattle.device_rules.specs.declared.Device.{Device}
+
+-- "The work step stores a pending frame after what is stored": the store then holds one frame more and is else as it was, and the unit waits
+-- for the next.
+pub record Stored (d d′ : Device) (s s′ : List ℕ) : Type 0 where
+  pub count : d′ .transfer .stored ≡ d .transfer .stored + length (frame (d .transfer))
+  pub holds : take (d′ .transfer .stored) s′ ≡ take (d .transfer .stored) s ++ frame (d .transfer)
+  pub rest : drop (d′ .transfer .stored) s′ ≡ drop (d′ .transfer .stored) s
+  pub number : d′ .transfer .number ≡ (d .transfer .number + 1) % 65536
+  pub emptied : frame (d′ .transfer) ≡ []
+  pub zeros : d′ .transfer .buffer ≡ replicate 256 0
+  pub waits : d′ .transfer .pending ≡ false
+
+-- A list that is laid behind the first bytes of another.
+seam : (at : ℕ) (s f r : List ℕ) → at ≤ length s → (take (at + length f) (take at s ++ (f ++ r)) ≡ take at s ++ f) × (drop (at + length f) (take at s ++ (f ++ r)) ≡ r)
+seam at s f r h =
+    let size : length (take at s ++ f) ≡ at + length f = rw (length-append, length-take-le at s h) in
+    rw (← append-assoc (take at s) f r, ← size) (take-append-seam (take at s ++ f) r, drop-append-seam (take at s ++ f) r)
+
+pub frame-stored : (d : Device) (s : List ℕ) → let t = d .transfer in t .pending ≡ true → t .size ≤ length s → t .stored + length (frame t) ≤ t .size
+    → Stored d (afterWork d (work d (length s))) s (storeAfter d (work d (length s)) s)
+unfolding work hasRoom frameStored frame afterWork storeAfter require after
+frame-stored d s pending long fits =
+    let t = d .transfer in
+    let laid = seam (t .stored) s (frame t) (drop (t .stored + length (frame t)) s) (omega arith) in
+    rw (le-leb (t .size) (length s) long, le-leb (t .stored + length (frame t)) (t .size) fits, pending)
+    (record { count = refl; holds = laid .0; rest = laid .1; number = refl; emptied = refl; zeros = refl; waits = refl })
 
 abbrev Gives : Device → List ℕ → Verdict → Device → List ℕ → Type 0
 Gives d s v d′ s′ =
@@ -25,37 +52,40 @@ Gives d s v d′ s′ =
 
 -- The step by its two tests.
 module _ (d : Device) (n : ℕ) where
-  tested : (b : Bool) → d .pending ≡ b → work d n ≡ cond b (after (require (hasRoom d n) 8 passed) (given (frameStored d) (frame d))) (given d [])
+  rests : d .transfer .pending ≡ false → work d n ≡ given d []
   unfolding work
-  tested b h = ap (λ (t : Bool). cond t (after (require (hasRoom d n) 8 passed) (given (frameStored d) (frame d))) (given d [])) h
+  rests h = rw h
 
-  short : d .pending ≡ true → hasRoom d n ≡ false → work d n ≡ refused 8
-  unfolding require after
-  short h k = tested true h ∙ rw k
+  short : d .transfer .pending ≡ true → hasRoom (d .transfer) n ≡ false → work d n ≡ refused 8
+  unfolding work require after
+  short h k = rw (k, h)
 
-  stores : d .pending ≡ true → hasRoom d n ≡ true → work d n ≡ given (frameStored d) (frame d)
-  unfolding require after
-  stores h k = tested true h ∙ rw k
+  stores : d .transfer .pending ≡ true → hasRoom (d .transfer) n ≡ true → work d n ≡ given (withTransfer d (frameStored (d .transfer))) (frame (d .transfer))
+  unfolding work require after
+  stores h k = rw (k, h)
 
 module _ (d : Device) (s : List ℕ) where
-  pub idle-gives : d .pending ≡ false → Gives d s Passed d s
+  pub idle-gives : d .transfer .pending ≡ false → Gives d s Passed d s
   unfolding unitTold worked afterWork storeAfter
-  idle-gives h = rw (tested d (length s) false h, add-zero) (refl, (refl, sym (take-append-drop (d .stored) s)))
+  idle-gives h = rw (rests d (length s) h, add-zero) (refl, (refl, sym (take-append-drop (d .transfer .stored) s)))
 
-  pub short-gives : d .pending ≡ true → hasRoom d (length s) ≡ false → Gives d s (Refused OutputTooShort) d s
+  pub short-gives : d .transfer .pending ≡ true → hasRoom (d .transfer) (length s) ≡ false → Gives d s (Refused OutputTooShort) d s
   unfolding unitTold worked afterWork storeAfter
   short-gives h k = rw (short d (length s) h k) (refl, (refl, refl))
 
-  pub room : hasRoom d (length s) ≡ true → (d .size ≤ length s) × (d .stored + length (frame d) ≤ d .size)
+  pub room : hasRoom (d .transfer) (length s) ≡ true → (d .transfer .size ≤ length s) × (d .transfer .stored + length (frame (d .transfer)) ≤ d .transfer .size)
   unfolding hasRoom
   room h =
-      let b = both-true (leb (d .size) (length s)) (leb (d .stored + length (frame d)) (d .size)) h in
+      let t = d .transfer in
+      let b = both-true (leb (t .size) (length s)) (leb (t .stored + length (frame t)) (t .size)) h in
       (leb-true _ _ (b .0), leb-true _ _ (b .1))
 
   -- A frame laid behind what is stored.
-  pub stored-gives : (part : List ℕ) → d .pending ≡ true → hasRoom d (length s) ≡ true
-      → part ≡ laid (within (drop (d .stored) s) (written (frame d))) (drop (d .stored) s) → Gives d s Passed (frameStored d) (take (d .stored) s ++ part)
+  pub stored-gives : (part : List ℕ) → d .transfer .pending ≡ true → hasRoom (d .transfer) (length s) ≡ true
+      → part ≡ laid (within (drop (d .transfer .stored) s) (written (frame (d .transfer)))) (drop (d .transfer .stored) s)
+      → Gives d s Passed (withTransfer d (frameStored (d .transfer))) (take (d .transfer .stored) s ++ part)
   unfolding unitTold worked afterWork storeAfter laid
   stored-gives part h k left =
-      let fits : length (frame d) ≤ length (drop (d .stored) s) = rw length-drop (omega (arith, room k)) in
-      rw (stores d (length s) h k, left, long-enough (drop (d .stored) s) (tt {0}) (frame d) fits, drop-drop) (refl, (refl, refl))
+      let t = d .transfer in
+      let fits : length (frame t) ≤ length (drop (t .stored) s) = rw length-drop (omega (arith, room k)) in
+      rw (stores d (length s) h k, left, long-enough (drop (t .stored) s) (tt {0}) (frame t) fits, drop-drop) (refl, (refl, refl))

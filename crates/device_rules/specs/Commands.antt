@@ -3,80 +3,66 @@ use Prim.Native.Nat.{ℕ}
 use mathlib.Core.Bool.{true, false, cond}
 use mathlib.Core.List.{List, _++_}
 use lib.Dec.{eqb}
-use lib.ListN.{length, drop, replicate}
+use lib.ListN.{length, drop}
 use Rattle.little_endian.specs.LittleEndian.{fromBytes}
+use Rattle.device_rules.specs.Device.{emptyBuffer, noTransfer, withTransfer}
 use Rattle.device_rules.specs.declared.Device.{Device}
-use Rattle.device_rules.specs.declared.Phase.the-variants.{Idle, Open}
+use Rattle.device_rules.specs.declared.Transfer.{Transfer}
+use Rattle.device_rules.specs.declared.Phase.the-variants.{Open}
 use Rattle.device_rules.specs.declared.Fault.{Fault}
 use Rattle.device_rules.specs.declared.Fault.the-variants.{None, Nack}
 
 -- "Setup opens, sets number 0xFFFF and empties the buffer; nothing is stored yet."
-unfoldable pub setupDone : Device → ℕ → Device
-setupDone d size =
+unfoldable pub newTransfer : ℕ → Transfer
+newTransfer size =
     record {
-      link = d .link;
-      own = d .own;
       phase = Open;
       number = 0xFFFF;
-      buffer = d .buffer;
+      buffer = emptyBuffer;
       buffered = 0;
-      pending = d .pending;
+      pending = false;
       size = size;
       stored = 0;
     }
 
 -- "Take frame makes it pending."
-unfoldable pub takeDone : Device → Device
-takeDone d =
+unfoldable pub takeDone : Transfer → Transfer
+takeDone t =
     record {
-      link = d .link;
-      own = d .own;
-      phase = d .phase;
-      number = d .number;
-      buffer = d .buffer;
-      buffered = d .buffered;
+      phase = t .phase;
+      number = t .number;
+      buffer = t .buffer;
+      buffered = t .buffered;
       pending = true;
-      size = d .size;
-      stored = d .stored;
+      size = t .size;
+      stored = t .stored;
     }
 
 -- "Frame replaces the buffer."
-unfoldable pub frameDone : Device → List ℕ → Device
-frameDone d p =
+unfoldable pub frameDone : Transfer → List ℕ → Transfer
+frameDone t p =
     record {
-      link = d .link;
-      own = d .own;
-      phase = d .phase;
-      number = d .number;
-      buffer = p ++ drop (length p) (replicate 256 0);
+      phase = t .phase;
+      number = t .number;
+      buffer = p ++ drop (length p) emptyBuffer;
       buffered = length p;
-      pending = d .pending;
-      size = d .size;
-      stored = d .stored;
+      pending = t .pending;
+      size = t .size;
+      stored = t .stored;
     }
 
--- "Cancel always returns to idle, drops the pending frame and the buffer, number 0xFFFF, nothing counted as stored."
-unfoldable pub cancelDone : Device → Device
-cancelDone d =
-    record {
-      link = d .link;
-      own = d .own;
-      phase = Idle;
-      number = 0xFFFF;
-      buffer = d .buffer;
-      buffered = 0;
-      pending = false;
-      size = 0;
-      stored = 0;
-    }
+-- The transfer after a command without a fault: 20, 21, 22, else 23, since any other ID has a fault. "Cancel always returns to idle, drops the pending frame and
+-- the buffer, number 0xFFFF, nothing counted as stored."
+unfoldable pub transferDone : Transfer → ℕ → List ℕ → Transfer
+transferDone t id p =
+    cond (eqb id 20) (newTransfer (fromBytes p))
+    (cond (eqb id 21) (takeDone t)
+    (cond (eqb id 22) (frameDone t p)
+    noTransfer))
 
--- The unit after a command without a fault: 20, 21, 22, else 23, since any other ID has a fault.
+-- The unit after it.
 unfoldable pub commandDone : Device → ℕ → List ℕ → Device
-commandDone d id p =
-    cond (eqb id 20) (setupDone d (fromBytes p))
-    (cond (eqb id 21) (takeDone d)
-    (cond (eqb id 22) (frameDone d p)
-    (cancelDone d)))
+commandDone d id p = withTransfer d (transferDone (d .transfer) id p)
 
 -- The unit after a command with this fault or none. "A nack changes nothing."
 unfoldable pub afterCommand : Device → ℕ → List ℕ → Fault → Device

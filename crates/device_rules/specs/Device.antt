@@ -9,6 +9,7 @@ use Rattle.message.specs.declared.Verdict.{Verdict}
 use Rattle.message.specs.declared.Verdict.the-variants as Verdict·of
 use Rattle.link.specs.declared.Link.{Link}
 use Rattle.device_rules.specs.declared.Device.{Device}
+use Rattle.device_rules.specs.declared.Transfer.{Transfer}
 use Rattle.device_rules.specs.declared.Phase.{Phase}
 use Rattle.device_rules.specs.declared.Phase.the-variants.{Idle, Open, Finished}
 
@@ -29,23 +30,33 @@ isFinished Open = false
 isFinished Finished = true
 
 -- The frame in the buffer.
-unfoldable pub frame : Device → List ℕ
-frame d = take (d .buffered) (d .buffer)
+unfoldable pub frame : Transfer → List ℕ
+frame t = take (t .buffered) (t .buffer)
 
--- A unit at first: idle, frame number 0xFFFF, nothing in the buffer, nothing stored.
-unfoldable pub newDevice : Link → ℕ → Device
-newDevice l own =
+-- A buffer that is emptied has zeros, so that one state has one representation.
+abbrev pub emptyBuffer : List ℕ
+emptyBuffer = replicate 256 0
+
+-- No transfer: idle, frame number 0xFFFF, nothing in the buffer, nothing pending, nothing stored. So is a unit at first.
+unfoldable pub noTransfer : Transfer
+noTransfer =
     record {
-      link = l;
-      own = own;
       phase = Idle;
       number = 0xFFFF;
-      buffer = replicate 256 0;
+      buffer = emptyBuffer;
       buffered = 0;
       pending = false;
       size = 0;
       stored = 0;
     }
+
+-- A unit with this transfer for its own: whatever else it has stays.
+abbrev pub withTransfer : Device → Transfer → Device
+withTransfer d t = record { link = d .link; own = d .own; transfer = t }
+
+-- A unit at first.
+unfoldable pub newDevice : Link → ℕ → Device
+newDevice l own = record { link = l; own = own; transfer = noTransfer }
 
 -- "Making a unit with own address 0 is refused with 7 on every link."
 unfoldable pub make : Link → ℕ → Answer Device Unit

@@ -16,6 +16,7 @@ use Rattle.link.specs.declared.Link.{Link}
 use Rattle.link.specs.declared.Link.the-variants.{Uart, Rs485, Can, Csp}
 use Rattle.device_rules.specs.Device.{isFinished, frame}
 use Rattle.device_rules.specs.declared.Device.{Device}
+use Rattle.device_rules.specs.declared.Transfer.{Transfer}
 use Rattle.device_rules.specs.Faults.{commandFault}
 use Rattle.device_rules.specs.declared.Fault.{Fault}
 use Rattle.device_rules.specs.declared.Fault.the-variants.{None, Nack}
@@ -48,9 +49,9 @@ answerTo d m k e i =
     record { kind = k; id = m .id; source = answerSource (d .link) (d .own) m; destination = m .source; error = Told e; index = i }
 
 -- "Frame info answers seven bytes: number, buffered size, checksum, each 2 bytes, then flags: bit 0 set when finished."
-unfoldable pub infoBytes : Device → List ℕ
-infoBytes d =
-    toBytes 2 (d .number) ++ (toBytes 2 (length (frame d)) ++ (toBytes 2 (checksum (frame d)) ++ (cond (isFinished (d .phase)) 1 0 ∷ [])))
+unfoldable pub infoBytes : Transfer → List ℕ
+infoBytes t =
+    toBytes 2 (t .number) ++ (toBytes 2 (length (frame t)) ++ (toBytes 2 (checksum (frame t)) ++ (cond (isFinished (t .phase)) 1 0 ∷ [])))
 
 -- No answer: no bytes, so it is never refused.
 abbrev pub silence : Device → Answer Reply (List ℕ)
@@ -69,7 +70,7 @@ commandReply d m p f = about (answers (afterCommand d (m .id) p f)) (linkWrite (
 unfoldable pub telemetryReply : Device → Message → Answer Reply (List ℕ)
 telemetryReply d m =
     cond (eqb (m .id) 150)
-    (about (answers d) (linkWrite (d .link) (answerTo d m Kind·of.TelemetryResponse 0 0) (infoBytes d)))
+    (about (answers d) (linkWrite (d .link) (answerTo d m Kind·of.TelemetryResponse 0 0) (infoBytes (d .transfer))))
     (about (answers d) (linkWrite (d .link) (answerTo d m Kind·of.TelemetryNack 1 0) []))
 
 -- "Kinds other than tc and tlmreq get no answer."

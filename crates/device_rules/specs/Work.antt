@@ -5,42 +5,41 @@ use mathlib.Core.List.{List, [], _++_}
 use lib.Dec.{leb, eqb}
 use lib.ListN.{length, take, drop}
 use Rattle.message.specs.Answer.{Answer, refused, given, number, passed, require, after}
-use Rattle.device_rules.specs.Device.{frame}
+use Rattle.device_rules.specs.Device.{frame, emptyBuffer, withTransfer}
 use Rattle.device_rules.specs.declared.Device.{Device}
+use Rattle.device_rules.specs.declared.Transfer.{Transfer}
 use Rattle.device_rules.specs.declared.Phase.the-variants.{Finished}
 
 -- "Stores a pending frame after what is stored, raises the number by one (after 0xFFFF comes 0, in sixteen bits), empties the buffer, and
 -- finishes when the size is reached."
-unfoldable pub frameStored : Device → Device
-frameStored d =
+unfoldable pub frameStored : Transfer → Transfer
+frameStored t =
     record {
-      link = d .link;
-      own = d .own;
-      phase = cond (eqb (d .stored + length (frame d)) (d .size)) Finished (d .phase);
-      number = (d .number + 1) % 65536;
-      buffer = d .buffer;
+      phase = cond (eqb (t .stored + length (frame t)) (t .size)) Finished (t .phase);
+      number = (t .number + 1) % 65536;
+      buffer = emptyBuffer;
       buffered = 0;
       pending = false;
-      size = d .size;
-      stored = d .stored + length (frame d);
+      size = t .size;
+      stored = t .stored + length (frame t);
     }
 
 -- 8: "if a frame is pending and the store is shorter than the size". No call leaves a pending frame that ends past the size; in such a state it
 -- is 8 too, so that no byte past the size is written.
-unfoldable pub hasRoom : Device → ℕ → Bool
-hasRoom d store = leb (d .size) store && leb (d .stored + length (frame d)) (d .size)
+unfoldable pub hasRoom : Transfer → ℕ → Bool
+hasRoom t store = leb (t .size) store && leb (t .stored + length (frame t)) (t .size)
 
 -- "With nothing pending it does nothing." With a store of so many bytes lent.
 unfoldable pub work : Device → ℕ → Answer Device (List ℕ)
 work d store =
-    cond (d .pending)
-    (after (require (hasRoom d store) 8 passed) (given (frameStored d) (frame d)))
+    cond (d .transfer .pending)
+    (after (require (hasRoom (d .transfer) store) 8 passed) (given (withTransfer d (frameStored (d .transfer))) (frame (d .transfer))))
     (given d [])
 
 -- "Nothing but storing changes a byte of the store": the bytes go behind what was stored.
 unfoldable pub storeAfter : Device → Answer Device (List ℕ) → List ℕ → List ℕ
 storeAfter d (refused n) s = s
-storeAfter d (given d′ b) s = take (d .stored) s ++ (b ++ drop (d .stored + length b) s)
+storeAfter d (given d′ b) s = take (d .transfer .stored) s ++ (b ++ drop (d .transfer .stored + length b) s)
 
 -- The unit alone, without the bytes.
 unfoldable pub worked : Answer Device (List ℕ) → Answer Device Unit

@@ -14,11 +14,8 @@ pub enum Phase {
     Finished,
 }
 
-// Document 01's unit. It is called a device, since `Unit` is a type of the logic.
-pub struct Device {
-    pub link: Link,
-    // The unit's own address.
-    pub own: u8,
+// What a transfer moves. Setup makes a new one and cancel leaves none; nothing else of the unit is a transfer's.
+pub struct Transfer {
     pub phase: Phase,
     // The number of the frame that was stored last; 0xFFFF before the first.
     pub number: u16,
@@ -31,6 +28,14 @@ pub struct Device {
     pub size: u32,
     // How many bytes are counted as stored.
     pub stored: u32,
+}
+
+// Document 01's unit. It is called a device, since `Unit` is a type of the logic.
+pub struct Device {
+    pub link: Link,
+    // The unit's own address.
+    pub own: u8,
+    pub transfer: Transfer,
 }
 
 // The answer of making a unit and of the work step. A refused work step leaves unit and store as they came.

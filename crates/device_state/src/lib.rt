@@ -1,33 +1,31 @@
-// A unit at first, and the frame that its buffer holds.
+// A unit at first, without a transfer, and the frame that a transfer's buffer holds.
 ghost use mathlib.Core.Path.{_≡_};
 ghost use lib.ListN.{length};
-ghost use Rattle.device_rules.specs.Device.{frame, newDevice, make, unitTold};
+ghost use Rattle.device_rules.specs.Device.{frame, noTransfer, newDevice, make, unitTold};
 use device_rules::Device;
 use device_rules::Phase;
+use device_rules::Transfer;
 use device_rules::UnitAnswer;
 use link::Link;
 use message::Refusal;
 use message::Verdict;
 
 // How many bytes the frame in the buffer has.
-pub fn frame_length(device: Device) -> usize
-    ensures { λ r. ⌜ r ≡ length (frame device) ⌝ }
+pub fn frame_length(transfer: Transfer) -> usize
+    ensures { λ r. ⌜ r ≡ length (frame transfer) ⌝ }
 {
-    let buffered = device.buffered as usize;
+    let buffered = transfer.buffered as usize;
     if 256 < buffered {
         return 256;
     }
     buffered
 }
 
-// A unit at first, with its own address. Where that is 0 it is refused, and the unit beside the refusal is of no use.
-pub fn make(link: Link, own: u8) -> UnitAnswer
-    ensures { λ r. ⌜ unitTold (r .verdict) (r .device) ≡ make link own ⌝ }
-    ensures { λ r. ⌜ r .device ≡ newDevice link own ⌝ }
+// No transfer: so is a unit at first, and after a cancel.
+pub fn no_transfer() -> Transfer
+    ensures { λ r. ⌜ r ≡ noTransfer ⌝ }
 {
-    let device = Device {
-        link,
-        own,
+    Transfer {
         phase: Phase::Idle,
         number: 0xFFFF,
         buffer: [0u8; 256],
@@ -35,6 +33,19 @@ pub fn make(link: Link, own: u8) -> UnitAnswer
         pending: false,
         size: 0,
         stored: 0,
+    }
+}
+
+// A unit at first, with its own address. Where that is 0 it is refused, and the unit beside the refusal is of no use.
+pub fn make(link: Link, own: u8) -> UnitAnswer
+    ensures { λ r. ⌜ unitTold (r .verdict) (r .device) ≡ make link own ⌝ }
+    ensures { λ r. ⌜ r .device ≡ newDevice link own ⌝ }
+{
+    let transfer = no_transfer();
+    let device = Device {
+        link,
+        own,
+        transfer,
     };
     if own == 0 {
         return UnitAnswer {

@@ -1,4 +1,4 @@
--- The digits of numbers and byte strings. Quotes are of the page of `replay`, "A script", which this repository does not hold.
+-- The digits of numbers and byte strings. Quotes are of docs/REPLAY.md, "A script".
 use Prim.Native.Nat.{ℕ, _+_, _-_}
 use mathlib.Core.Bool.{Bool, true, cond, _&&_}
 use mathlib.Core.List.{List, [], _∷_}

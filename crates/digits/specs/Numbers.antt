@@ -1,4 +1,4 @@
--- Decimal numbers. Quotes are of the page of `replay`, "A script", which this repository does not hold.
+-- Decimal numbers. Quotes are of docs/REPLAY.md, "A script".
 use Prim.Native.Nat.{ℕ, zero, suc, _+_, _*_, _/_, _%_}
 use mathlib.Core.Bool.{cond, _&&_}
 use mathlib.Core.List.{List, [], _∷_, _++_}

@@ -2,11 +2,11 @@
 ghost use mathlib.Core.Path.{_≡_};
 ghost use Rattle.device_rules.specs.Faults.{frameFault};
 use crate::is_open;
-use device_rules::Device;
 use device_rules::Fault;
+use device_rules::Transfer;
 
-pub(crate) fn frame_fault(device: Device, payload: &[u8]) -> Fault
-    ensures { λ r. ⌜ r ≡ frameFault device (now (payload .entry)) ⌝ }
+pub(crate) fn frame_fault(transfer: Transfer, payload: &[u8]) -> Fault
+    ensures { λ r. ⌜ r ≡ frameFault transfer (now (payload .entry)) ⌝ }
 {
     if payload.len() == 0 {
         return Fault::Nack(2, 0);
@@ -14,11 +14,11 @@ pub(crate) fn frame_fault(device: Device, payload: &[u8]) -> Fault
     if 256 < payload.len() {
         return Fault::Nack(2, 0);
     }
-    let phase = device.phase;
+    let phase = transfer.phase;
     if !is_open(phase) {
         return Fault::Nack(7, 0);
     }
-    if device.pending {
+    if transfer.pending {
         return Fault::Nack(6, 0);
     }
     Fault::None

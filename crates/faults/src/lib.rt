@@ -15,10 +15,11 @@ use device_rules::Phase;
 pub fn command_fault(device: Device, store: usize, id: u8, payload: &[u8]) -> Fault
     ensures { λ r. ⌜ r ≡ commandFault device store id (now (payload .entry)) ⌝ }
 {
+    let transfer = device.transfer;
     match id {
-        20 => setup::setup_fault(device, store, payload),
-        21 => take_faults::take_fault(device, payload),
-        22 => frame::frame_fault(device, payload),
+        20 => setup::setup_fault(transfer, store, payload),
+        21 => take_faults::take_fault(transfer, payload),
+        22 => frame::frame_fault(transfer, payload),
         23 => cancel::cancel_fault(payload),
         _ => Fault::Nack(1, 0),
     }

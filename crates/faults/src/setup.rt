@@ -2,19 +2,19 @@
 ghost use mathlib.Core.Path.{_≡_};
 ghost use Rattle.device_rules.specs.Faults.{setupFault};
 use crate::is_open;
-use device_rules::Device;
 use device_rules::Fault;
+use device_rules::Transfer;
 
-pub(crate) fn setup_fault(device: Device, store: usize, payload: &[u8]) -> Fault
-    ensures { λ r. ⌜ r ≡ setupFault device store (now (payload .entry)) ⌝ }
+pub(crate) fn setup_fault(transfer: Transfer, store: usize, payload: &[u8]) -> Fault
+    ensures { λ r. ⌜ r ≡ setupFault transfer store (now (payload .entry)) ⌝ }
 {
     if payload.len() != 4 {
         return Fault::Nack(2, 0);
     }
-    if device.pending {
+    if transfer.pending {
         return Fault::Nack(6, 0);
     }
-    let phase = device.phase;
+    let phase = transfer.phase;
     if is_open(phase) {
         return Fault::Nack(7, 0);
     }

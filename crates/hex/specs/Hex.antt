@@ -1,5 +1,4 @@
--- Byte strings as they are printed and read, and the answers of both. Quotes are of the page of `replay`, "A script", which this repository
--- does not hold.
+-- Byte strings as they are printed and read, and the answers of both. Quotes are of docs/REPLAY.md, "A script".
 use Prim.Native.Nat.{ℕ, _+_, _*_, _/_, _%_}
 use mathlib.Core.Bool.{Bool, cond, _&&_, not}
 use mathlib.Core.List.{List, [], _∷_, _++_}

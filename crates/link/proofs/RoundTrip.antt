@@ -45,17 +45,20 @@ carried-writes l m p b e = read-writes l b (linkCarried l m) p (bytes-read l m p
 pub read-most : (l : Link) (b : List ℕ) (m : Message) (p : List ℕ) → linkRead l b ≡ given m p → length p ≤ 256
 read-most l b m p e = payload-most l m p b (read-writes l b m p e)
 
--- A legal message is written, within the link's bound, and arrives.
-pub record Arrives (l : Link) (m : Message) (p : List ℕ) : Type 0 where
-  pub bytes : List ℕ
-  pub wrote : linkWrite l m p ≡ written bytes
-  pub reads : linkRead l bytes ≡ given (linkCarried l m) p
-  pub most : length bytes ≤ mostBytes l
+-- Bytes under way: a message and a payload were written as them, within the link's bound, and they read as what the link carries of these.
+pub record Underway (l : Link) (m : Message) (p b : List ℕ) : Type 0 where
+  pub wrote : linkWrite l m p ≡ written b
+  pub reads : linkRead l b ≡ given (linkCarried l m) p
+  pub most : length b ≤ mostBytes l
+
+-- A legal message is written, and arrives.
+abbrev pub Arrives : Link → Message → List ℕ → Type 0
+Arrives l m p = (b : List ℕ) × Underway l m p b
 
 pub legal-arrives : (l : Link) (m : Message) (p : List ℕ) → Legal l m p → Arrives l m p
 legal-arrives l m p h =
     let w = legal-writes l m p h in
-    record { bytes = w .0; wrote = w .1; reads = bytes-read l m p (w .0) (w .1); most = bytes-most l m p (w .0) (w .1) }
+    (w .0, record { wrote = w .1; reads = bytes-read l m p (w .0) (w .1); most = bytes-most l m p (w .0) (w .1) })
 
 -- Only an event's ID changes on the way.
 pub id-arrives : (l : Link) (m : Message) → isEvent (m .kind) ≡ false → linkCarried l m .id ≡ m .id

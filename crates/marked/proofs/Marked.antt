@@ -20,8 +20,9 @@ use Rattle.device_rules.specs.Receive as device_rules·Receive
 use Rattle.device_rules.specs.Answers as device_rules·Answers
 use Rattle.upload.specs.Sender as upload·Sender
 use Rattle.upload.specs.Round as upload·Round
-use Rattle.upload.specs.World as upload·World
-use Rattle.upload.specs.Schedule as upload·Schedule
+use Rattle.round_rules.specs.Requester as round_rules·Requester
+use Rattle.round_rules.specs.World as round_rules·World
+use Rattle.round_rules.specs.Schedule as round_rules·Schedule
 use Rattle.link.specs.declared.Link.{Link}
 use Rattle.link.specs.declared.Link.the-variants.{Uart, Rs485, Can, Csp}
 use Rattle.marked.specs.Cases.{setupBytes, opened, afterRounds, askedAgain, NothingLost, AnswerLost, cases, AllHold}
@@ -33,7 +34,7 @@ on-every P uart rs485 can csp Can = can
 on-every P uart rs485 can csp Csp = csp
 
 pub marked : AllHold cases
-unfolding setupBytes opened afterRounds askedAgain little_endian·LittleEndian.fromBytes little_endian·LittleEndian.toBytes message·Answer.require message·Answer.after message·Answer.within message·Answer.counted message·Answer.laid message·Answer.verdictTold message·Answer.readTold message·Answer.writeTold message·Kinds.inside message·Kinds.typeKind message·Kinds.isAck message·Kinds.isNack message·Kinds.isEvent message·Checks.idLegal message·Checks.payloadLegal message·Checks.errorLegal message·Checks.fieldChecks message·Checks.told message·Checks.writable message·Checks.writeChecks message·Checks.bodyFits message·Checks.bodyChecks message·Body.errorBytes message·Body.bodyBytes message·Body.bodyMessage message·Body.bodyRead csp·Csp.cspTyped csp·Csp.cspRead csp·Csp.cspHead csp·Csp.cspWrite stuffing·Stuffing.doubled stuffing·Stuffing.escaped stuffing·Stuffing.scan serial·Frames.startRow serial·Frames.byId serial·Frames.kindOf serial·Frames.idField serial·Frames.addressField serial·Frames.sourceLegal serial·Frames.sourced serial·Frames.identified serial·Frames.frameBody serial·Frames.closed serial·Frames.started serial·Frames.frameRead serial·Frames.frontFields serial·Frames.frameBytes serial·Frames.frameWrite can·Can.kindOfType can·Can.identifier can·Can.frame can·Can.inSeries can·Can.series can·Can.framesBehind can·Can.canBytes can·Can.canWrite can·Can.typeLegal can·Can.zeros can·Can.firstFits can·Can.firstChecks can·Can.laterFits can·Can.sameBytes can·Can.laterChecks can·Can.prepend can·Can.laterFrames can·Can.allFrames can·Can.canError can·Can.canMessage can·Can.canIdLegal can·Can.canFits can·Can.complete can·Can.canRead link·Link.linkRead link·Link.linkWrite link·Link.linkCarried file·File.sizeLegal file·File.frameCount file·File.fileFrame checksum·Checksum.sum checksum·Checksum.checksum device_rules·Device.frame device_rules·Device.newDevice device_rules·Device.make device_rules·Faults.fault device_rules·Faults.setupFault device_rules·Faults.bufferFault device_rules·Faults.numberFault device_rules·Faults.takeFault device_rules·Faults.frameFault device_rules·Faults.cancelFault device_rules·Faults.commandFault device_rules·Commands.setupDone device_rules·Commands.takeDone device_rules·Commands.frameDone device_rules·Commands.cancelDone device_rules·Commands.commandDone device_rules·Commands.afterCommand device_rules·Receive.isTaken device_rules·Receive.answerSource device_rules·Receive.answerTo device_rules·Receive.infoBytes message·Answer.about device_rules·Receive.commandAnswer device_rules·Receive.commandReply device_rules·Receive.telemetryReply device_rules·Receive.kindReply device_rules·Receive.messageReply device_rules·Receive.receive device_rules·Work.frameStored device_rules·Work.hasRoom device_rules·Work.work device_rules·Work.storeAfter device_rules·Work.worked upload·Sender.newSender upload·Sender.addressesLegal upload·Sender.start upload·Sender.senderTold upload·Sender.requestPayload upload·Sender.requestMessage upload·Sender.sameFile upload·Sender.request upload·Sender.requestTold upload·Sender.framesKnown upload·Round.fits upload·Round.takenError upload·Round.compared upload·Round.confirmed upload·Round.informed upload·Round.ackMeaning upload·Round.nackMeaning upload·Round.infoMeaning upload·Round.kindMeaning upload·Round.meaning upload·Round.waited upload·Round.hasNext upload·Round.advanced upload·Round.roundOver upload·Round.hear upload·World.lent upload·World.kept device_rules·Work.afterWork device_rules·Answers.afterReceive upload·World.bytesOr upload·World.senderOr upload·World.does upload·World.run upload·World.answerCheck upload·World.callCheck upload·World.isFailed upload·World.isRefused upload·Schedule.isGood upload·Schedule.goods upload·Schedule.exchange upload·Schedule.requested upload·Schedule.roundCalls upload·Schedule.scheduled message·Kinds.errorCarried message·Kinds.indexCarried message·Kinds.carriedOn
+unfolding setupBytes opened afterRounds askedAgain little_endian·LittleEndian.fromBytes little_endian·LittleEndian.toBytes message·Answer.require message·Answer.after message·Answer.within message·Answer.counted message·Answer.laid message·Answer.verdictTold message·Answer.readTold message·Answer.writeTold message·Kinds.inside message·Kinds.typeKind message·Kinds.isAck message·Kinds.isNack message·Kinds.isEvent message·Checks.idLegal message·Checks.payloadLegal message·Checks.errorLegal message·Checks.fieldChecks message·Checks.told message·Checks.writable message·Checks.writeChecks message·Checks.bodyFits message·Checks.bodyChecks message·Body.errorBytes message·Body.bodyBytes message·Body.bodyMessage message·Body.bodyRead csp·Csp.cspTyped csp·Csp.cspRead csp·Csp.cspHead csp·Csp.cspWrite stuffing·Stuffing.doubled stuffing·Stuffing.escaped stuffing·Stuffing.scan serial·Frames.startRow serial·Frames.byId serial·Frames.kindOf serial·Frames.idField serial·Frames.addressField serial·Frames.sourceLegal serial·Frames.sourced serial·Frames.identified serial·Frames.frameBody serial·Frames.closed serial·Frames.started serial·Frames.frameRead serial·Frames.frontFields serial·Frames.frameBytes serial·Frames.frameWrite can·Can.kindOfType can·Can.identifier can·Can.frame can·Can.inSeries can·Can.series can·Can.framesBehind can·Can.canBytes can·Can.canWrite can·Can.typeLegal can·Can.zeros can·Can.firstFits can·Can.firstChecks can·Can.laterFits can·Can.sameBytes can·Can.laterChecks can·Can.prepend can·Can.laterFrames can·Can.allFrames can·Can.canError can·Can.canMessage can·Can.canIdLegal can·Can.canFits can·Can.complete can·Can.canRead link·Link.linkRead link·Link.linkWrite link·Link.linkCarried file·File.sizeLegal file·File.frameCount file·File.fileFrame checksum·Checksum.sum checksum·Checksum.checksum device_rules·Device.frame device_rules·Device.noTransfer device_rules·Device.newDevice device_rules·Device.make device_rules·Faults.fault device_rules·Faults.setupFault device_rules·Faults.bufferFault device_rules·Faults.numberFault device_rules·Faults.takeFault device_rules·Faults.frameFault device_rules·Faults.cancelFault device_rules·Faults.commandFault device_rules·Commands.newTransfer device_rules·Commands.takeDone device_rules·Commands.frameDone device_rules·Commands.transferDone device_rules·Commands.commandDone device_rules·Commands.afterCommand device_rules·Receive.isTaken device_rules·Receive.answerSource device_rules·Receive.answerTo device_rules·Receive.infoBytes message·Answer.about device_rules·Receive.commandAnswer device_rules·Receive.commandReply device_rules·Receive.telemetryReply device_rules·Receive.kindReply device_rules·Receive.messageReply device_rules·Receive.receive device_rules·Work.frameStored device_rules·Work.hasRoom device_rules·Work.work device_rules·Work.storeAfter device_rules·Work.worked upload·Sender.newSender upload·Sender.addressesLegal upload·Sender.start upload·Sender.senderTold upload·Sender.requestPayload upload·Sender.requestMessage upload·Sender.sameFile upload·Sender.request upload·Sender.requestTold upload·Sender.framesKnown upload·Round.fits upload·Round.takenError upload·Round.compared upload·Round.confirmed upload·Round.informed upload·Round.ackMeaning upload·Round.nackMeaning upload·Round.infoMeaning upload·Round.kindMeaning upload·Round.meaning upload·Round.oneMore upload·Round.waited upload·Round.hasNext upload·Round.advanced upload·Round.roundOver upload·Round.hear round_rules·Requester.lent round_rules·Requester.kept device_rules·Work.afterWork device_rules·Answers.afterReceive round_rules·World.bytesOr round_rules·World.requesterOr round_rules·World.does round_rules·World.run round_rules·World.answerCheck round_rules·World.callCheck round_rules·World.isFailed round_rules·World.isRefused round_rules·Schedule.isGood round_rules·Schedule.goods round_rules·Schedule.exchange round_rules·Schedule.requested round_rules·Schedule.roundCalls round_rules·Schedule.scheduled message·Kinds.errorCarried message·Kinds.indexCarried message·Kinds.carriedOn
 marked =
     let p11 : (l : Link) → NothingLost l = on-every NothingLost (refl, refl, refl, refl) (refl, refl, refl, refl) (refl, refl, refl, refl) (refl, refl, refl, refl) in
     let p12 : (l : Link) → AnswerLost l = on-every AnswerLost (refl, refl, refl) (refl, refl, refl) (refl, refl, refl) (refl, refl, refl) in

@@ -20,7 +20,7 @@ use Rattle.device_rules.specs.Commands as device_rules·Commands
 use Rattle.device_rules.specs.Receive as device_rules·Receive
 use Rattle.device_rules.specs.Answers as device_rules·Answers
 use Rattle.upload.specs.Sender as upload·Sender
-use Rattle.upload.specs.World as upload·World
+use Rattle.round_rules.specs.World as round_rules·World
 use Rattle.message.specs.Answer.{given, within}
 use Rattle.message.specs.declared.Kind.the-variants.{Telecommand}
 use Rattle.little_endian.specs.LittleEndian.{toBytes}
@@ -32,9 +32,9 @@ use Rattle.device_rules.specs.Faults.{commandFault}
 use Rattle.device_rules.specs.Receive.{answers, receive}
 use Rattle.device_rules.specs.declared.Fault.the-variants.{None}
 use Rattle.upload.specs.Demand.{Start}
-use Rattle.upload.specs.Schedule.{output}
+use Rattle.round_rules.specs.Schedule.{output}
 use Rattle.upload.specs.Sender.{start}
-use Rattle.upload.specs.World.{bytesOr}
+use Rattle.round_rules.specs.World.{bytesOr}
 use Rattle.marked.specs.Cases.{plain, file, setupBytes, opened}
 
 -- A new unit with own address 31 takes the setup, with the addresses that its link carries.
@@ -45,7 +45,7 @@ accepted : (l : Link) (source destination : ℕ)
     linkRead l (setupBytes l) ≡ given (plain Telecommand 20 source destination) (toBytes 4 300)
     → within output (receive unit room (setupBytes l)) ≡ given (answers (opened l .device)) ack
     → commandFault unit room 20 (toBytes 4 300) ≡ None
-    → start l 255 31 300 ≡ given (opened l .sender) tt
+    → start l 255 31 300 ≡ given (opened l .requester) tt
     → Start file (opened l)
 unfolding newDevice little_endian·LittleEndian.fromBytes little_endian·LittleEndian.toBytes
 accepted l source destination reads answered done started =
@@ -70,7 +70,7 @@ accepted l source destination reads answered done started =
 
 -- So demand 3 speaks of some world, whatever the link.
 pub starts : (l : Link) → Start file (opened l)
-unfolding setupBytes opened little_endian·LittleEndian.fromBytes little_endian·LittleEndian.toBytes message·Answer.require message·Answer.after message·Answer.within message·Kinds.inside message·Kinds.typeKind message·Kinds.isNack message·Kinds.isEvent message·Checks.idLegal message·Checks.payloadLegal message·Checks.errorLegal message·Checks.fieldChecks message·Checks.told message·Checks.writable message·Checks.writeChecks message·Checks.bodyFits message·Checks.bodyChecks message·Body.errorBytes message·Body.bodyBytes message·Body.bodyMessage message·Body.bodyRead csp·Csp.cspTyped csp·Csp.cspRead csp·Csp.cspHead csp·Csp.cspWrite stuffing·Stuffing.doubled stuffing·Stuffing.escaped stuffing·Stuffing.scan serial·Frames.startRow serial·Frames.byId serial·Frames.kindOf serial·Frames.idField serial·Frames.addressField serial·Frames.sourceLegal serial·Frames.sourced serial·Frames.identified serial·Frames.frameBody serial·Frames.closed serial·Frames.started serial·Frames.frameRead serial·Frames.frontFields serial·Frames.frameBytes serial·Frames.frameWrite can·Can.kindOfType can·Can.identifier can·Can.frame can·Can.inSeries can·Can.canBytes can·Can.canWrite can·Can.typeLegal can·Can.zeros can·Can.firstFits can·Can.firstChecks can·Can.allFrames can·Can.canError can·Can.canMessage can·Can.canIdLegal can·Can.canFits can·Can.complete can·Can.canRead link·Link.linkRead link·Link.linkWrite file·File.sizeLegal device_rules·Device.newDevice device_rules·Faults.fault device_rules·Faults.setupFault device_rules·Faults.commandFault device_rules·Commands.setupDone device_rules·Commands.commandDone device_rules·Commands.afterCommand device_rules·Receive.isTaken device_rules·Receive.answerSource device_rules·Receive.answerTo message·Answer.about device_rules·Receive.commandAnswer device_rules·Receive.commandReply device_rules·Receive.kindReply device_rules·Receive.messageReply device_rules·Receive.receive upload·Sender.newSender upload·Sender.addressesLegal upload·Sender.start device_rules·Answers.afterReceive upload·World.bytesOr message·Kinds.errorCarried message·Kinds.indexCarried
+unfolding setupBytes opened little_endian·LittleEndian.fromBytes little_endian·LittleEndian.toBytes message·Answer.require message·Answer.after message·Answer.within message·Kinds.inside message·Kinds.typeKind message·Kinds.isNack message·Kinds.isEvent message·Checks.idLegal message·Checks.payloadLegal message·Checks.errorLegal message·Checks.fieldChecks message·Checks.told message·Checks.writable message·Checks.writeChecks message·Checks.bodyFits message·Checks.bodyChecks message·Body.errorBytes message·Body.bodyBytes message·Body.bodyMessage message·Body.bodyRead csp·Csp.cspTyped csp·Csp.cspRead csp·Csp.cspHead csp·Csp.cspWrite stuffing·Stuffing.doubled stuffing·Stuffing.escaped stuffing·Stuffing.scan serial·Frames.startRow serial·Frames.byId serial·Frames.kindOf serial·Frames.idField serial·Frames.addressField serial·Frames.sourceLegal serial·Frames.sourced serial·Frames.identified serial·Frames.frameBody serial·Frames.closed serial·Frames.started serial·Frames.frameRead serial·Frames.frontFields serial·Frames.frameBytes serial·Frames.frameWrite can·Can.kindOfType can·Can.identifier can·Can.frame can·Can.inSeries can·Can.canBytes can·Can.canWrite can·Can.typeLegal can·Can.zeros can·Can.firstFits can·Can.firstChecks can·Can.allFrames can·Can.canError can·Can.canMessage can·Can.canIdLegal can·Can.canFits can·Can.complete can·Can.canRead link·Link.linkRead link·Link.linkWrite file·File.sizeLegal device_rules·Device.noTransfer device_rules·Device.newDevice device_rules·Faults.fault device_rules·Faults.setupFault device_rules·Faults.commandFault device_rules·Commands.newTransfer device_rules·Commands.transferDone device_rules·Commands.commandDone device_rules·Commands.afterCommand device_rules·Receive.isTaken device_rules·Receive.answerSource device_rules·Receive.answerTo message·Answer.about device_rules·Receive.commandAnswer device_rules·Receive.commandReply device_rules·Receive.kindReply device_rules·Receive.messageReply device_rules·Receive.receive upload·Sender.newSender upload·Sender.addressesLegal upload·Sender.start device_rules·Answers.afterReceive round_rules·World.bytesOr message·Kinds.errorCarried message·Kinds.indexCarried
 starts Uart = accepted Uart 0 0 refl refl refl refl
 starts Rs485 = accepted Rs485 255 31 refl refl refl refl
 starts Can = accepted Can 255 31 refl refl refl refl

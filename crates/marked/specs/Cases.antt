@@ -19,13 +19,16 @@ use Rattle.link.specs.declared.Link.{Link}
 use Rattle.device_rules.specs.Device.{newDevice}
 use Rattle.device_rules.specs.Answers.{afterReceive}
 use Rattle.device_rules.specs.Receive.{receive}
-use Rattle.upload.specs.Schedule.{output, scheduled}
-use Rattle.upload.specs.declared.Fate.{Fate}
-use Rattle.upload.specs.declared.Fate.the-variants as Fate·of
-use Rattle.upload.specs.declared.Round.{Round}
+use Rattle.round_rules.specs.Schedule.{output, scheduled}
+use Rattle.round_rules.specs.declared.Fate.{Fate}
+use Rattle.round_rules.specs.declared.Fate.the-variants as Fate·of
+use Rattle.round_rules.specs.declared.Round.{Round}
 use Rattle.upload.specs.Sender.{newSender, framesKnown}
-use Rattle.upload.specs.World.{World, shared, works, asks, arrives, does, run, bytesOr}
-use Rattle.upload.specs.declared.State.the-variants.{Finished}
+use Rattle.upload.specs.Sending.{sending}
+use Rattle.upload.specs.declared.Sender.{Sender}
+use Rattle.round_rules.specs.World.{World, works, asks, arrives, does, run, bytesOr}
+use Rattle.round_rules.specs.Requester.{shared}
+use Rattle.round_rules.specs.declared.State.the-variants.{Finished}
 
 -- A message of a kind, an ID and addresses whose other fields are 0.
 abbrev pub plain : Kind → ℕ → ℕ → ℕ → Message
@@ -54,13 +57,13 @@ unfoldable pub setupBytes : Link → List ℕ
 setupBytes l = bytesOr [] (linkWrite l (plain Telecommand 20 255 31) (toBytes 4 300))
 
 -- Unit and sender after the setup, which arrives as bytes on the link.
-unfoldable pub opened : Link → World
+unfoldable pub opened : Link → World Sender
 opened l =
     let unit = newDevice l 31 in
     record {
       device = afterReceive unit (receive unit 303 (setupBytes l));
       store = emptyStore;
-      sender = newSender l 255 31 300;
+      requester = newSender l 255 31 300;
       request = [];
       answer = [];
     }
@@ -70,24 +73,24 @@ abbrev pub worked : Fate → Round
 worked f = record { worked = true; fate = f }
 
 -- The world after rounds.
-unfoldable pub afterRounds : Link → List Round → World
-afterRounds l rs = run file (opened l) (scheduled file (opened l) rs)
+unfoldable pub afterRounds : Link → List Round → World Sender
+afterRounds l rs = run (sending file) (opened l) (scheduled (sending file) (opened l) rs)
 
 -- P11: "300 bytes, nothing lost, work always done: 2 frames, 8 rounds, finished."
 abbrev pub NothingLost : Link → Type 0
 NothingLost l =
     let w = afterRounds l (replicate 8 (worked Fate·of.Delivered)) in
-    (framesKnown (w .sender) ≡ 2) × (w .sender .rounds ≡ 8) × (w .sender .state ≡ Finished) × (w .store ≡ stored)
+    (framesKnown (w .requester) ≡ 2) × (w .requester .rounds ≡ 8) × (w .requester .state ≡ Finished) × (w .store ≡ stored)
 
 -- P12: "same file, last take-frame answer lost": so far the unit has taken the frame; then the work step, and the sender asks again.
-unfoldable pub askedAgain : Link → World
-askedAgain l = run file (afterRounds l (replicate 6 (worked Fate·of.Delivered) ++ (worked Fate·of.AnswerLost ∷ []))) (works shared ∷ asks shared output ∷ [])
+unfoldable pub askedAgain : Link → World Sender
+askedAgain l = run (sending file) (afterRounds l (replicate 6 (worked Fate·of.Delivered) ++ (worked Fate·of.AnswerLost ∷ []))) (works shared ∷ asks shared output ∷ [])
 
 -- "The repeat after the work step gets nack 3, store unchanged." On CAN the nack does not tell its number.
 abbrev pub AnswerLost : Link → Type 0
 AnswerLost l =
     let w = askedAgain l in
-    let v = does file w (arrives (w .request) shared output) in
+    let v = does (sending file) w (arrives (w .request) shared output) in
     let nack : Message = record { kind = TelecommandNack; id = 21; source = 31; destination = 255; error = Told 3; index = 0 } in
     (linkRead l (v .answer) ≡ given (linkCarried l nack) []) × (w .store ≡ stored) × (v .store ≡ stored)
 

@@ -1,10 +1,9 @@
 // What a script keeps: a unit with its store, a sender and a file. Store and file are the first so many bytes of their arrays.
 use device::Device;
-use device::Phase;
 use link::Link;
+use round_rules::State;
 use upload::Sender;
 use upload::Stage;
-use upload::State;
 
 pub struct Kept {
     // A unit has been made.
@@ -21,17 +20,8 @@ pub struct Kept {
 
 // At first there is no unit and no sender, and the file is empty.
 pub(crate) fn none() -> Kept {
-    let unit = Device {
-        link: Link::Uart,
-        own: 0,
-        phase: Phase::Idle,
-        number: 0,
-        buffer: [0; 256],
-        buffered: 0,
-        pending: false,
-        size: 0,
-        stored: 0,
-    };
+    let made = device::make(Link::Uart, 1);
+    let unit = made.device;
     let sender = Sender {
         link: Link::Uart,
         source: 0,

@@ -10,9 +10,9 @@ use message::ErrorByte;
 use message::Kind;
 use message::Message;
 use message::Refusal;
+use round_rules::State;
 use upload::Sender;
 use upload::Stage;
-use upload::State;
 
 pub(crate) fn text(bytes: &[u8]) {
     io::write_all(STDOUT_FILENO, bytes);
@@ -85,14 +85,15 @@ pub(crate) fn refused(refusal: Refusal) {
 
 // ` PHASE NUMBER BUFFERED CHECKSUM PENDING STORED SIZE` of a unit.
 pub(crate) fn unit(unit: Device) {
-    let phase = unit.phase;
+    let transfer = unit.transfer;
+    let phase = transfer.phase;
     phase_name(phase);
-    number(unit.number as usize);
-    let buffer = unit.buffer;
-    frame(front(&buffer, unit.buffered as usize));
-    next(unit.pending as u8);
-    number(unit.stored as usize);
-    number(unit.size as usize);
+    number(transfer.number as usize);
+    let buffer = transfer.buffer;
+    frame(front(&buffer, transfer.buffered as usize));
+    next(transfer.pending as u8);
+    number(transfer.stored as usize);
+    number(transfer.size as usize);
 }
 
 fn phase_name(phase: Phase) {

@@ -8,7 +8,7 @@ use crate::keep::Kept;
 use crate::line;
 use crate::plain;
 use crate::print;
-use crate::rounds;
+use crate::round;
 use crate::sending;
 use crate::unit;
 
@@ -58,7 +58,7 @@ fn make(call: Call, bytes: &[u8], kept: Kept) -> Kept {
         return sending::make(call, bytes, kept);
     }
     if name == call::ROUND {
-        return rounds::round(call, kept);
+        return round::make(call, kept);
     }
     if name == call::BAD {
         print::text(b"bad line\n");

@@ -47,12 +47,11 @@ fn start(call: Call, kept: Kept) -> Kept {
 }
 
 fn started(call: Call) -> SenderAnswer {
-    let length = (call[4] % 0x1_0000_0000) as u32;
     sender::start(
         call::link(call[1]),
         call::byte(call[2]),
         call::byte(call[3]),
-        length,
+        call[4],
     )
 }
 
@@ -103,7 +102,7 @@ fn answer(call: Call, bytes: &[u8], kept: Kept) -> Kept {
 }
 
 // The sender's answer call, with the file as it is kept.
-pub(crate) fn heard(kept: Kept, bytes: &[u8]) -> SenderAnswer {
+fn heard(kept: Kept, bytes: &[u8]) -> SenderAnswer {
     let sender = kept.sender;
     let file = kept.file;
     sender::hear(sender, front(&file, kept.file_length), bytes)

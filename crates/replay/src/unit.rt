@@ -122,7 +122,8 @@ fn work(kept: Kept) -> Kept {
     let unit = kept.unit;
     let worked = worked(kept);
     let verdict = worked.verdict;
-    print_worked(verdict, unit.pending);
+    let transfer = unit.transfer;
+    print_worked(verdict, transfer.pending);
     let next = worked.kept;
     shown(next)
 }

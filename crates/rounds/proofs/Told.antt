@@ -18,9 +18,10 @@ use Rattle.device_rules.specs.Work.{worked}
 use Rattle.device_rules.specs.declared.Device.{Device}
 use Rattle.device_rules.specs.declared.Outcome.{Outcome}
 use Rattle.device_rules.specs.declared.Outcome.the-variants as Outcome·of
-use Rattle.upload.specs.Schedule.{output}
-use Rattle.upload.specs.World.{answerCheck}
-use Rattle.upload.specs.Sender.{sent, nothing, isRunning, request, requestTold}
+use Rattle.round_rules.specs.Schedule.{output}
+use Rattle.round_rules.specs.World.{answerCheck}
+use Rattle.upload.specs.Sender.{request, requestTold}
+use Rattle.round_rules.specs.Requester.{sent, nothing, isRunning}
 use Rattle.upload.specs.declared.RequestAnswer.{RequestAnswer}
 use Rattle.upload.specs.declared.RequestAnswer.the-variants as RequestAnswer·of
 use Rattle.upload.specs.declared.Sender.{Sender}

@@ -5,9 +5,10 @@ ghost use Rattle.message.specs.Answer.{verdictTold, within, counted};
 ghost use Rattle.device_rules.specs.Answers.{receiveTold, afterReceive};
 ghost use Rattle.device_rules.specs.Receive.{receive};
 ghost use Rattle.upload.specs.Round.{hear};
-ghost use Rattle.runs.specs.Rounds.{nothingSent};
-ghost use Rattle.upload.specs.Schedule.{output, exchange, requested};
-ghost use Rattle.upload.specs.World.{senderOr, answerCheck};
+ghost use Rattle.round_rules.specs.Rounds.{nothingSent};
+ghost use Rattle.round_rules.specs.Schedule.{output, exchange, requested};
+ghost use Rattle.upload.specs.Sending.{sending};
+ghost use Rattle.round_rules.specs.World.{requesterOr, answerCheck};
 ghost use Rattle.rounds.specs.Ends.{asking, Ends};
 use crate::Rounded;
 use crate::stopped;
@@ -15,7 +16,7 @@ use device::Device;
 use device::Outcome;
 use device::Received;
 use message::Verdict;
-use upload::Fate;
+use round_rules::Fate;
 use upload::RequestAnswer;
 use upload::Sender;
 use upload::SenderAnswer;
@@ -28,7 +29,7 @@ pub(crate) fn requested(
     file: &[u8],
     store: &[u8],
 ) -> Rounded
-    ensures { λ r. ⌜ Ends r (now (store .entry)) (now (file .entry)) (nothingSent device (now (store .entry)) sender) (requested (now (file .entry)) (nothingSent device (now (store .entry)) sender) fate) ⌝ }
+    ensures { λ r. ⌜ Ends r (now (store .entry)) (now (file .entry)) (nothingSent device (now (store .entry)) sender) (requested (sending (now (file .entry))) (nothingSent device (now (store .entry)) sender) fate) ⌝ }
 {
     let mut request = [0u8; 522];
     match sender::request(sender, file, &mut request) {
@@ -51,7 +52,7 @@ fn sent(
     store: &[u8],
     request: &[u8],
 ) -> Rounded
-    ensures { λ r. ⌜ Ends r (now (store .entry)) (now (file .entry)) (asking device (now (store .entry)) sender (now (request .entry))) (exchange (now (file .entry)) (asking device (now (store .entry)) sender (now (request .entry))) fate) ⌝ }
+    ensures { λ r. ⌜ Ends r (now (store .entry)) (now (file .entry)) (asking device (now (store .entry)) sender (now (request .entry))) (exchange (sending (now (file .entry))) (asking device (now (store .entry)) sender (now (request .entry))) fate) ⌝ }
 {
     match fate {
         Fate::Delivered => delivered(device, sender, file, store, request),
@@ -63,7 +64,7 @@ fn sent(
 
 // The request arrives, and the sender hears the unit's answer.
 fn delivered(device: Device, sender: Sender, file: &[u8], store: &[u8], request: &[u8]) -> Rounded
-    ensures { λ r. ⌜ Ends r (now (store .entry)) (now (file .entry)) (asking device (now (store .entry)) sender (now (request .entry))) (exchange (now (file .entry)) (asking device (now (store .entry)) sender (now (request .entry))) Fate.Delivered) ⌝ }
+    ensures { λ r. ⌜ Ends r (now (store .entry)) (now (file .entry)) (asking device (now (store .entry)) sender (now (request .entry))) (exchange (sending (now (file .entry))) (asking device (now (store .entry)) sender (now (request .entry))) Fate.Delivered) ⌝ }
 {
     let mut answer = [0u8; 522];
     let received = device::receive(device, request, store, &mut answer);
@@ -78,7 +79,7 @@ fn delivered(device: Device, sender: Sender, file: &[u8], store: &[u8], request:
 
 // The request arrives, and the sender hears nothing.
 fn answer_lost(device: Device, sender: Sender, file: &[u8], store: &[u8], request: &[u8]) -> Rounded
-    ensures { λ r. ⌜ Ends r (now (store .entry)) (now (file .entry)) (asking device (now (store .entry)) sender (now (request .entry))) (exchange (now (file .entry)) (asking device (now (store .entry)) sender (now (request .entry))) Fate.AnswerLost) ⌝ }
+    ensures { λ r. ⌜ Ends r (now (store .entry)) (now (file .entry)) (asking device (now (store .entry)) sender (now (request .entry))) (exchange (sending (now (file .entry))) (asking device (now (store .entry)) sender (now (request .entry))) Fate.AnswerLost) ⌝ }
 {
     let received = unheard(device, store, request);
     let unit = received.device;
@@ -92,7 +93,7 @@ fn answer_lost(device: Device, sender: Sender, file: &[u8], store: &[u8], reques
 
 // The request arrives, and arrives again: the sender hears the second answer.
 fn twice(device: Device, sender: Sender, file: &[u8], store: &[u8], request: &[u8]) -> Rounded
-    ensures { λ r. ⌜ Ends r (now (store .entry)) (now (file .entry)) (asking device (now (store .entry)) sender (now (request .entry))) (exchange (now (file .entry)) (asking device (now (store .entry)) sender (now (request .entry))) Fate.Twice) ⌝ }
+    ensures { λ r. ⌜ Ends r (now (store .entry)) (now (file .entry)) (asking device (now (store .entry)) sender (now (request .entry))) (exchange (sending (now (file .entry))) (asking device (now (store .entry)) sender (now (request .entry))) Fate.Twice) ⌝ }
 {
     let received = unheard(device, store, request);
     let unit = received.device;
@@ -115,7 +116,7 @@ fn unheard(device: Device, store: &[u8], request: &[u8]) -> Received
 
 // The sender's answer call, with the bytes that it hears, none where the request or its answer was lost.
 fn heard(device: Device, sender: Sender, file: &[u8], answer: &[u8]) -> Rounded
-    ensures { λ r. ⌜ (verdictTold (r .verdict) ≡ answerCheck (hear sender (now (file .entry)) (now (answer .entry)))) × (r .device ≡ device) × (r .sender ≡ senderOr sender (hear sender (now (file .entry)) (now (answer .entry)))) ⌝ }
+    ensures { λ r. ⌜ (verdictTold (r .verdict) ≡ answerCheck (hear sender (now (file .entry)) (now (answer .entry)))) × (r .device ≡ device) × (r .sender ≡ requesterOr sender (hear sender (now (file .entry)) (now (answer .entry)))) ⌝ }
 {
     match sender::hear(sender, file, answer) {
         SenderAnswer::Sender(next) => Rounded {

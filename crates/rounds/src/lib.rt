@@ -1,16 +1,17 @@
 // One round between a sender and a unit (document 01, "The sender and its rounds"): the work step, done or not, then one exchange, by the
 // calls of the crates `device` and `sender`. A program that has both sides, as a test or a rehearsal on the ground, runs an upload with it.
 //
-// What a round comes to is `roundMade` and `roundRefusal` of `specs/Rounds.antt` in `runs`, over the calls that demand 3 is proved of.
+// What a round comes to is `roundMade` and `roundRefusal` of `specs/Rounds.antt` in `round_rules`, over the calls that demand 3 is proved of.
 mod exchange;
 
 ghost use mathlib.Core.Path.{_≡_};
 ghost use Rattle.message.specs.Answer.{verdictTold};
-ghost use Rattle.runs.specs.Rounds.{nothingSent, roundMade, roundRefusal};
+ghost use Rattle.round_rules.specs.Rounds.{nothingSent, roundMade, roundRefusal};
+ghost use Rattle.upload.specs.Sending.{sending};
 use device::Device;
 use message::Refusal;
 use message::Verdict;
-use upload::Round;
+use round_rules::Round;
 use upload::Sender;
 
 // What a round leaves: unit and sender, and whether each of its calls passed. The first that is refused ends the round, and what the calls
@@ -23,10 +24,10 @@ pub struct Rounded {
 
 // Runs a round with the unit's store and the sender's file.
 pub fn round(device: Device, sender: Sender, round: Round, file: &[u8], store: &mut [u8]) -> Rounded
-    ensures { λ r. ⌜ verdictTold (r .verdict) ≡ roundRefusal (now (file .entry)) (nothingSent device (now (store .entry)) sender) round ⌝ }
-    ensures { λ r. ⌜ r .device ≡ roundMade (now (file .entry)) (nothingSent device (now (store .entry)) sender) round .device ⌝ }
-    ensures { λ r. ⌜ r .sender ≡ roundMade (now (file .entry)) (nothingSent device (now (store .entry)) sender) round .sender ⌝ }
-    ensures { λ _. ⌜ now (store .exit) ≡ roundMade (now (file .entry)) (nothingSent device (now (store .entry)) sender) round .store ⌝ }
+    ensures { λ r. ⌜ verdictTold (r .verdict) ≡ roundRefusal (sending (now (file .entry))) (nothingSent device (now (store .entry)) sender) round ⌝ }
+    ensures { λ r. ⌜ r .device ≡ roundMade (sending (now (file .entry))) (nothingSent device (now (store .entry)) sender) round .device ⌝ }
+    ensures { λ r. ⌜ r .sender ≡ roundMade (sending (now (file .entry))) (nothingSent device (now (store .entry)) sender) round .requester ⌝ }
+    ensures { λ _. ⌜ now (store .exit) ≡ roundMade (sending (now (file .entry))) (nothingSent device (now (store .entry)) sender) round .store ⌝ }
 {
     let fate = round.fate;
     if !round.worked {

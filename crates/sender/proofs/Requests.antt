@@ -7,7 +7,8 @@ use lib.Dec.{eqb}
 use lib.ListN.{length}
 use Rattle.message.specs.Answer.{refused, given, require, after, about}
 use Rattle.link.specs.Link.{linkWrite}
-use Rattle.upload.specs.Sender.{sent, nothing, isRunning, sameFile, request, requestMessage, requestPayload}
+use Rattle.round_rules.specs.Requester.{sent, nothing, isRunning}
+use Rattle.upload.specs.Sender.{sameFile, request, requestMessage, requestPayload}
 use Rattle.upload.specs.declared.Sender.{Sender}
 
 module _ (s : Sender) (file : List ℕ) where

@@ -2,9 +2,9 @@
 ghost use mathlib.Core.Path.{_≡_};
 ghost use lib.Dec.{eqb};
 ghost use lib.ListN.{length};
-ghost use Rattle.upload.specs.Sender.{isRunning};
+ghost use Rattle.round_rules.specs.Requester.{isRunning};
+use round_rules::State;
 use upload::Sender;
-use upload::State;
 
 pub(crate) fn is_running(state: State) -> bool
     ensures { λ r. ⌜ r ≡ isRunning state ⌝ }

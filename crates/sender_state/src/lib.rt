@@ -7,10 +7,10 @@ ghost use Rattle.upload.specs.Sender.{requestKind, requestId, requestMessage, f
 use message::ErrorByte;
 use message::Kind;
 use message::Message;
+use round_rules::State;
 pub use starter::start;
 use upload::Sender;
 use upload::Stage;
-use upload::State;
 
 // The request of the stage that the sender is at, without what it carries.
 pub fn request_message(sender: Sender) -> Message

@@ -3,26 +3,27 @@ ghost use mathlib.Core.Path.{_≡_};
 ghost use Rattle.upload.specs.Sender.{addressesLegal, start, senderTold};
 use link::Link;
 use message::Refusal;
+use round_rules::State;
 use upload::Sender;
 use upload::SenderAnswer;
 use upload::Stage;
-use upload::State;
 
-// A sender at first, for a file of this length.
-pub fn start(link: Link, source: u8, destination: u8, length: u32) -> SenderAnswer
+// A sender at first, for a file of this length. It is a usize, as a slice's is, so that no caller has to narrow it before it is looked at.
+pub fn start(link: Link, source: u8, destination: u8, length: usize) -> SenderAnswer
     ensures { λ r. ⌜ senderTold r ≡ start link source destination length ⌝ }
 {
-    if !file::size_legal(length as usize) {
+    if !file::size_legal(length) {
         return SenderAnswer::Refused(Refusal::IllegalFileSize);
     }
     if !addresses_legal(link, source, destination) {
         return SenderAnswer::Refused(Refusal::IllegalValue);
     }
+    let legal = length as u32;
     SenderAnswer::Sender(Sender {
         link,
         source,
         destination,
-        length,
+        length: legal,
         frame: 0,
         stage: Stage::Frame,
         since: 0,

@@ -2,11 +2,11 @@
 mod table;
 
 ghost use mathlib.Core.Path.{_≡_};
-ghost use Rattle.upload.specs.Round.{isStep, changed, waited, advanced, roundOver};
+ghost use Rattle.upload.specs.Round.{isStep, changed, oneMore, waited, advanced, roundOver};
+use round_rules::State;
 use upload::Meaning;
 use upload::Sender;
 use upload::Stage;
-use upload::State;
 
 // The sender after a round with an answer that means this.
 pub fn round_over(sender: Sender, meaning: Meaning) -> Sender
@@ -17,7 +17,7 @@ pub fn round_over(sender: Sender, meaning: Meaning) -> Sender
         Meaning::Stay => waited(sender, stage),
         Meaning::Forward => forward(sender),
         Meaning::Differs => waited(sender, Stage::Back),
-        Meaning::Flagged => changed(sender, sender.frame, stage, sender.since, State::GivenUp),
+        Meaning::Flagged => flagged(sender),
     }
 }
 
@@ -48,11 +48,30 @@ fn is_step(stage: Stage) -> bool
 fn waited(sender: Sender, stage: Stage) -> Sender
     ensures { λ r. ⌜ r ≡ waited sender stage ⌝ }
 {
+    let since = one_more(sender);
     if sender.since < 49 {
-        let since = sender.since + 1;
         return changed(sender, sender.frame, stage, since, State::Running);
     }
-    changed(sender, sender.frame, stage, sender.since, State::GivenUp)
+    changed(sender, sender.frame, stage, since, State::GivenUp)
+}
+
+// The rounds since the last step forward, with this one: fifty at most.
+fn one_more(sender: Sender) -> u8
+    ensures { λ r. ⌜ r ≡ oneMore sender ⌝ }
+{
+    if sender.since < 49 {
+        return sender.since + 1;
+    }
+    50
+}
+
+// The error flag: given up at once.
+fn flagged(sender: Sender) -> Sender
+    ensures { λ r. ⌜ r ≡ roundOver sender Meaning.Flagged ⌝ }
+{
+    let stage = sender.stage;
+    let since = one_more(sender);
+    changed(sender, sender.frame, stage, since, State::GivenUp)
 }
 
 // A step forward: the next stage of the frame; past D the next frame, or the finish after the last.

@@ -4,28 +4,28 @@ mod number;
 ghost use mathlib.Core.Path.{_≡_};
 ghost use Rattle.device_rules.specs.Device.{isIdle, isFinished};
 ghost use Rattle.device_rules.specs.Faults.{takeFault};
-use device_rules::Device;
 use device_rules::Fault;
 use device_rules::Phase;
+use device_rules::Transfer;
 
-pub fn take_fault(device: Device, payload: &[u8]) -> Fault
-    ensures { λ r. ⌜ r ≡ takeFault device (now (payload .entry)) ⌝ }
+pub fn take_fault(transfer: Transfer, payload: &[u8]) -> Fault
+    ensures { λ r. ⌜ r ≡ takeFault transfer (now (payload .entry)) ⌝ }
 {
     if payload.len() != 2 {
         return Fault::Nack(2, 0);
     }
-    let phase = device.phase;
+    let phase = transfer.phase;
     if is_idle(phase) {
         return Fault::Nack(7, 0);
     }
-    if device.pending {
+    if transfer.pending {
         return Fault::Nack(6, 0);
     }
     if is_finished(phase) {
         return Fault::Nack(3, 0);
     }
     number::number_fault(
-        device,
+        transfer,
         little_endian::u16_from_bytes(payload[0], payload[1]),
     )
 }

@@ -6,26 +6,26 @@ use mathlib.Core.Path.{_≡_, refl, sym}
 use native.Mathlib.Omega.{arith}
 use borrow.Author.Tests.{eq-eqb, ne-eqb, lt-ltb, le-ltb, eqb-true, eqb-false}
 use lib.Dec.{eqb}
-use lib.ListN.{length, take, drop, replicate}
+use lib.ListN.{length, take, drop}
 use lib.Seq.{take-at}
 use Rattle.message.specs.Answer.{given}
 use Rattle.message.specs.Kinds.{isEvent, carriedOn}
 use Rattle.little_endian.proofs.Laws.{to-length, from-to}
 use Rattle.file.specs.File.{fileFrame}
 use Rattle.link.specs.Link.{linkCarried, linkRead}
+use Rattle.device_rules.specs.Device.{emptyBuffer}
 use Rattle.device_rules.specs.declared.Device.{Device}
 use Rattle.upload.specs.Sender.{requestPayload}
 use Rattle.upload.specs.declared.Meaning.{Meaning}
 use Rattle.upload.specs.declared.Meaning.the-variants.{Stay, Forward}
 use Rattle.upload.specs.declared.Stage.{Stage}
 use Rattle.upload.specs.declared.Stage.the-variants.{Frame, Back, Compare, Take, Confirm}
-use Rattle.upload.specs.declared.State.the-variants.{Running}
+use Rattle.round_rules.specs.declared.State.the-variants.{Running}
 use Rattle.upload.specs.Stored.{isTake, markTaken}
 use Rattle.upload.proofs.Exchange.{requestRead}
 use Rattle.upload.proofs.Files.{count-legal, frame-some, frame-most, remains}
 use Rattle.upload.proofs.Served.{Served, served-frame, served-compare, served-take, served-pending, served-stored, served-waiting, served-confirmed}
-use Rattle.device_rules.proofs.Faults.{unitAt}
-use Rattle.upload.proofs.Table.{Upload, Buffer, free, loaded, pending, isPending, Stands, Quiet, Leads, markOf, frames, Holding, sender}
+use Rattle.upload.proofs.Table.{Upload, Buffer, free, loaded, pending, isPending, Stands, Quiet, Leads, markOf, frames, Holding, unitAt, sender}
 
 -- The buffer after the arrival of a stage's request.
 abbrev pub arrivedBuffer : Stage → Buffer → Buffer
@@ -70,28 +70,28 @@ module _ (u : Upload) (b : List ℕ) (f since rounds store : ℕ) (h : f < frame
     pub buffer : List ℕ
     pub buffered : ℕ
     pub meant : Meaning
-    pub serves : Served (u .file) (sender u f stage since rounds Running) before store b (unitAt (u .link) (u .own) (length (u .file)) i buffer buffered (isPending after)) meant
+    pub serves : Served (u .file) (sender u f stage since rounds Running) before store b (unitAt u i buffer buffered (isPending after)) meant
     pub holding : Holding u after i (take buffered buffer)
     pub leads : Leads meant d stage after
 
   abbrev Reads : Stage → Type 0
-  Reads stage = linkRead (u .link) b ≡ given (requestRead (u .link) (u .source) (u .destination) stage) (requestPayload stage (u .file) f)
+  Reads stage = linkRead (u .unit .link) b ≡ given (requestRead (u .unit .link) (u .source) (u .destination) stage) (requestPayload stage (u .file) f)
 
-  loads : (d : Bool) (buffer : List ℕ) (buffered : ℕ) → Reads Frame → Arrival d Frame (unitAt (u .link) (u .own) (length (u .file)) f buffer buffered false) f loaded
+  loads : (d : Bool) (buffer : List ℕ) (buffered : ℕ) → Reads Frame → Arrival d Frame (unitAt u f buffer buffered false) f loaded
   unfolding requestPayload
   loads d buffer buffered r =
       let p = fileFrame (u .file) f in
       record {
-        buffer = p ++ drop (length p) (replicate 256 0);
+        buffer = p ++ drop (length p) emptyBuffer;
         buffered = length p;
         meant = Forward;
-        serves = served-frame (u .link) (u .source) (u .destination) (u .own) (u .addressed) (u .file) (length (u .file)) f store since rounds b buffer buffered p r h (frame-some (u .file) f h) (frame-most (u .file) f);
-        holding = (h, take-at p (drop (length p) (replicate 256 0)) (length p) refl);
+        serves = served-frame (u .unit) (u .source) (u .destination) (u .addressed) (u .file) (length (u .file)) f store since rounds b buffer buffered p r h (frame-some (u .file) f h) (frame-most (u .file) f);
+        holding = (h, take-at p (drop (length p) emptyBuffer) (length p) refl);
         leads = tt;
       }
 
   pub arrival : (d : Bool) (stage : Stage) (c : Buffer) (i : ℕ) (buffer : List ℕ) (buffered : ℕ) → Reads stage → Stands stage c f i → Quiet d stage c → Holding u c i (take buffered buffer)
-      → Arrival d stage (unitAt (u .link) (u .own) (length (u .file)) i buffer buffered (isPending c)) i (arrivedBuffer stage c)
+      → Arrival d stage (unitAt u i buffer buffered (isPending c)) i (arrivedBuffer stage c)
   unfolding requestPayload
   arrival d Frame free i buffer buffered r e q c = rw e (loads d buffer buffered r)
   arrival d Frame loaded i buffer buffered r e q c = rw e (loads d buffer buffered r)
@@ -100,7 +100,7 @@ module _ (u : Upload) (b : List ℕ) (f since rounds store : ℕ) (h : f < frame
         buffer = buffer;
         buffered = buffered;
         meant = Forward;
-        serves = served-compare (u .link) (u .source) (u .destination) (u .own) (u .addressed) (u .file) (length (u .file)) f store since rounds b buffer buffered _ r (rw (← e) (c .1)) (frame-most (u .file) f);
+        serves = served-compare (u .unit) (u .source) (u .destination) (u .addressed) (u .file) (length (u .file)) f store since rounds b buffer buffered _ r (rw (← e) (c .1)) (frame-most (u .file) f);
         holding = rw (← e) c;
         leads = tt;
       })
@@ -109,7 +109,7 @@ module _ (u : Upload) (b : List ℕ) (f since rounds store : ℕ) (h : f < frame
         buffer = buffer;
         buffered = buffered;
         meant = Forward;
-        serves = served-stored (u .link) (u .source) (u .destination) (u .own) (u .addressed) (u .file) (length (u .file)) f store since rounds b buffer buffered r small;
+        serves = served-stored (u .unit) (u .source) (u .destination) (u .addressed) (u .file) (length (u .file)) f store since rounds b buffer buffered r small;
         holding = rw (← e) c;
         leads = tt;
       })
@@ -119,7 +119,7 @@ module _ (u : Upload) (b : List ℕ) (f since rounds store : ℕ) (h : f < frame
         buffer = buffer;
         buffered = buffered;
         meant = Forward;
-        serves = served-take (u .link) (u .source) (u .destination) (u .own) (u .addressed) (u .file) (length (u .file)) f store since rounds b buffer buffered r h small (rw content (frame-some (u .file) f h)) (rw content (remains (u .file) f));
+        serves = served-take (u .unit) (u .source) (u .destination) (u .addressed) (u .file) (length (u .file)) f store since rounds b buffer buffered r h small (rw content (frame-some (u .file) f h)) (rw content (remains (u .file) f));
         holding = rw (← e) c;
         leads = tt;
       })
@@ -128,7 +128,7 @@ module _ (u : Upload) (b : List ℕ) (f since rounds store : ℕ) (h : f < frame
         buffer = buffer;
         buffered = buffered;
         meant = Forward;
-        serves = served-pending (u .link) (u .source) (u .destination) (u .own) (u .addressed) (u .file) (length (u .file)) f store since rounds b buffer buffered r;
+        serves = served-pending (u .unit) (u .source) (u .destination) (u .addressed) (u .file) (length (u .file)) f store since rounds b buffer buffered r;
         holding = rw (← e) c;
         leads = tt;
       })
@@ -137,7 +137,7 @@ module _ (u : Upload) (b : List ℕ) (f since rounds store : ℕ) (h : f < frame
         buffer = buffer;
         buffered = buffered;
         meant = Forward;
-        serves = served-confirmed (u .link) (u .source) (u .destination) (u .own) (u .addressed) (u .file) (length (u .file)) f store since rounds b buffer buffered _ r small;
+        serves = served-confirmed (u .unit) (u .source) (u .destination) (u .addressed) (u .file) (length (u .file)) f store since rounds b buffer buffered _ r small;
         holding = rw (← e) c;
         leads = tt;
       })
@@ -146,7 +146,7 @@ module _ (u : Upload) (b : List ℕ) (f since rounds store : ℕ) (h : f < frame
         buffer = buffer;
         buffered = buffered;
         meant = Stay;
-        serves = served-waiting (u .link) (u .source) (u .destination) (u .own) (u .addressed) (u .file) (length (u .file)) f store since rounds b buffer buffered _ r small;
+        serves = served-waiting (u .unit) (u .source) (u .destination) (u .addressed) (u .file) (length (u .file)) f store since rounds b buffer buffered _ r small;
         holding = rw (← e) c;
         leads = waits d q;
       })
@@ -160,7 +160,7 @@ takes Take f j = eqb f j
 takes Confirm f j = false
 
 pub read-takes : (u : Upload) (stage : Stage) (f j : ℕ) → f < 65536
-    → isTake j (given (requestRead (u .link) (u .source) (u .destination) stage) (requestPayload stage (u .file) f)) ≡ takes stage f j
+    → isTake j (given (requestRead (u .unit .link) (u .source) (u .destination) stage) (requestPayload stage (u .file) f)) ≡ takes stage f j
 unfolding isTake linkCarried carriedOn isEvent requestPayload
 read-takes u Frame f j h = refl
 read-takes u Back f j h = refl

@@ -1,5 +1,5 @@
 -- The sender's request call: what it writes at each stage is legal on every link, so it is under way as the unit will read it.
-use Prim.Native.Nat.{ℕ, _≤_, zero-le}
+use Prim.Native.Nat.{ℕ, zero-le}
 use mathlib.Core.Bool.{Bool, true, false}
 use mathlib.Core.List.{List}
 use mathlib.Core.Path.{_≡_, refl}
@@ -11,15 +11,16 @@ use Rattle.message.specs.Answer.{Answer, given, require, after, within, about}
 use Rattle.message.specs.Checks.{idLegal, payloadLegal, errorLegal, fieldChecks, told}
 use Rattle.message.specs.Kinds.{inside, isEvent}
 use Rattle.little_endian.proofs.Laws.{to-length}
-use Rattle.link.specs.Link.{linkRead, mostBytes}
-use Rattle.link.proofs.RoundTrip.{Arrives}
-use Rattle.upload.specs.Sender.{requestKind, requestId, requestPayload, requestMessage, sent, sameFile, request}
+use Rattle.link.proofs.RoundTrip.{Underway, Arrives}
+use Rattle.upload.specs.Sender.{requestKind, requestId, requestPayload, requestMessage, sameFile, request}
+use Rattle.round_rules.specs.Requester.{sent, shared, lent}
+use Rattle.upload.specs.Sending.{sending}
 use Rattle.upload.specs.declared.Sender.{Sender}
 use Rattle.upload.specs.declared.Stage.{Stage}
 use Rattle.upload.specs.declared.Stage.the-variants.{Frame, Back, Compare, Take, Confirm}
-use Rattle.upload.specs.declared.State.the-variants.{Running}
-use Rattle.upload.specs.World.{World, shared, lent, asks, bytesOr, does, isRefused, answerCheck, isFailed, callCheck}
-use Rattle.upload.proofs.Exchange.{requestOf, requestRead, Plain, request-arrives}
+use Rattle.round_rules.specs.declared.State.the-variants.{Running}
+use Rattle.round_rules.specs.World.{World, asks, bytesOr, does, isRefused, answerCheck, isFailed, callCheck}
+use Rattle.upload.proofs.Exchange.{requestOf, requestAt, Plain, request-arrives}
 use Rattle.upload.proofs.Files.{frame-most}
 use Rattle.upload.proofs.Table.{Upload, sender, Asked}
 
@@ -41,21 +42,21 @@ request-plain Compare s t file f = record { plain = refl; tells = refl; fields =
 request-plain Take s t file f = record { plain = refl; tells = refl; fields = rw (to-length 2 f) }
 request-plain Confirm s t file f = record { plain = refl; tells = refl; fields = refl }
 
-request-sent : (u : Upload) (stage : Stage) (f : ℕ) → Arrives (u .link) (requestOf (requestKind stage) (requestId stage) (u .source) (u .destination)) (requestPayload stage (u .file) f)
+request-sent : (u : Upload) (stage : Stage) (f : ℕ) → Arrives (u .unit .link) (requestAt (u .source) (u .destination) stage) (requestPayload stage (u .file) f)
 request-sent u stage f =
-    request-arrives (u .link) (u .source) (u .destination) (u .own) (requestId stage) (requestKind stage) (requestPayload stage (u .file) f) (u .addressed) (request-plain stage (u .source) (u .destination) (u .file) f)
+    request-arrives (u .unit .link) (u .source) (u .destination) (u .unit .own) (requestId stage) (requestKind stage) (requestPayload stage (u .file) f) (u .addressed) (request-plain stage (u .source) (u .destination) (u .file) f)
 
--- The request of a running sender: its bytes are within the link's bound, and the unit will read them.
+-- The request of a running sender.
 pub asks-bytes : (u : Upload) (s : Sender) (stage : Stage) (f since rounds : ℕ) → s ≡ sender u f stage since rounds Running
-    → (b : List ℕ) × (request s (u .file) ≡ given sent b) × (length b ≤ mostBytes (u .link)) × (linkRead (u .link) b ≡ given (requestRead (u .link) (u .source) (u .destination) stage) (requestPayload stage (u .file) f))
+    → (b : List ℕ) × (request s (u .file) ≡ given sent b) × Underway (u .unit .link) (requestAt (u .source) (u .destination) stage) (requestPayload stage (u .file) f) b
 unfolding request requestMessage sameFile about after require
 asks-bytes u s stage f since rounds e =
     let sent = request-sent u stage f in
-    (sent .bytes, rw (e, eq-eqb (length (u .file)) (length (u .file)) refl, sent .wrote), sent .most, sent .reads)
+    (sent .0, rw (e, eq-eqb (length (u .file)) (length (u .file)) refl, sent .1 .wrote), sent .1)
 
-pub asks-request : (u : Upload) (w : World) (stage : Stage) (f since rounds : ℕ) (out : List ℕ) → w .sender ≡ sender u f stage since rounds Running
-    → isRefused (u .file) w (asks shared out) ≡ false → Asked u (does (u .file) w (asks shared out)) stage f
+pub asks-request : (u : Upload) (w : World Sender) (stage : Stage) (f since rounds : ℕ) (out : List ℕ) → w .requester ≡ sender u f stage since rounds Running
+    → isRefused (sending (u .file)) w (asks shared out) ≡ false → Asked u (does (sending (u .file)) w (asks shared out)) stage f
 unfolding isRefused callCheck does lent bytesOr
 asks-request u w stage f since rounds out e h =
-    let written = asks-bytes u (w .sender) stage f since rounds e in
-    rw (unrefused out (request (w .sender) (u .file)) sent (written .0) (written .1) h) (written .3)
+    let written = asks-bytes u (w .requester) stage f since rounds e in
+    rw (unrefused out (request (w .requester) (u .file)) sent (written .0) (written .1) h) (written .2)

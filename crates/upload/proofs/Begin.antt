@@ -3,7 +3,7 @@
 use Prim.Native.Nat.{ℕ, _≤_, min, zero-le}
 use mathlib.Core.Bool.{Bool, true, false, cond, not, _||_}
 use mathlib.Core.List.{List, []}
-use mathlib.Core.Path.{_≡_, refl, sym, _∙_}
+use mathlib.Core.Path.{_≡_, refl, sym, ap, _∙_}
 use native.Mathlib.Omega.{arith}
 use borrow.Author.Tests.{ltb-true, ltb-false, le-ltb, ne-eqb}
 use lib.Dec.{ltb}
@@ -20,19 +20,22 @@ use Rattle.device_rules.specs.declared.Device.{Device}
 use Rattle.device_rules.specs.Faults.{fault, setupFault, commandFault}
 use Rattle.device_rules.specs.declared.Fault.{Fault}
 use Rattle.device_rules.specs.declared.Fault.the-variants.{None}
-use Rattle.device_rules.specs.Commands.{setupDone, commandDone, afterCommand}
+use Rattle.device_rules.specs.Commands.{newTransfer, transferDone, commandDone, afterCommand}
+use Rattle.device_rules.specs.Device.{emptyBuffer, withTransfer}
+use Rattle.device_rules.specs.declared.Transfer.{Transfer}
 use Rattle.device_rules.specs.Receive.{Reply, answers, silent, isTaken, commandReply, kindReply, messageReply, receive}
 use Rattle.upload.specs.Sender.{newSender, addressesLegal, start}
+use Rattle.upload.specs.declared.Sender.{Sender}
 use Rattle.upload.specs.declared.Stage.the-variants.{Frame}
-use Rattle.upload.specs.Demand.{Start, goodRounds}
-use Rattle.upload.specs.Legal.{between}
+use Rattle.upload.specs.Demand.{Start}
 use Rattle.upload.specs.Stored.{waiting}
-use Rattle.upload.specs.World.{World}
-use Rattle.upload.proofs.Counting.{none-good-yet}
+use Rattle.round_rules.specs.World.{World}
+use Rattle.round_rules.proofs.Counting.{course-begins}
 use Rattle.upload.proofs.Exchange.{Addressed}
 use Rattle.upload.proofs.Files.{count-legal, store-first}
-use Rattle.device_rules.proofs.Faults.{unitAt}
-use Rattle.upload.proofs.Table.{Upload, free, markOf, Invariant, runs}
+use Rattle.device_rules.proofs.Faults.{transferAt}
+use Rattle.round_rules.proofs.Steady.{runs}
+use Rattle.upload.proofs.Table.{Upload, free, markOf, Outcome}
 
 -- A started sender: its checks passed.
 pub addresses : (l : Link) (s t own : ℕ) → addressesLegal l s t ≡ true → (l ≡ Rs485 → t ≡ own) → Addressed l s t own
@@ -55,14 +58,14 @@ neither : (a b : Bool) → a || b ≡ false → (a ≡ false) × (b ≡ false)
 neither false b e = (refl, e)
 neither true b e = absurd (let z : _≡_ {A = ℕ} 0 1 = cc in omega arith)
 
-setup-passed : (d : Device) (store : ℕ) (p : List ℕ) → setupFault d store p ≡ None → (d .pending ≡ false) × (fromBytes p ≤ store)
+setup-passed : (t : Transfer) (store : ℕ) (p : List ℕ) → setupFault t store p ≡ None → fromBytes p ≤ store
 unfolding setupFault
-setup-passed d store p e =
+setup-passed t store p e =
     let two = fault-none 2 _ _ e in
-    let six = fault-none 6 (d .pending) _ (two .1) in
+    let six = fault-none 6 (t .pending) _ (two .1) in
     let seven = fault-none 7 _ _ (six .1) in
     let three = fault-none 3 _ None (seven .1) in
-    (six .0, ltb-false store (fromBytes p) (neither (not (sizeLegal (fromBytes p))) _ (three .0) .1))
+    ltb-false store (fromBytes p) (neither (not (sizeLegal (fromBytes p))) _ (three .0) .1)
 
 -- The unit that answered the setup.
 answered-given : (d d′ : Device) (x : Answer Unit (List ℕ)) (b : List ℕ) → about (answers d) x ≡ given (answers d′) b → d ≡ d′
@@ -74,29 +77,29 @@ taken-given : (t : Bool) (d d′ : Device) (x : Answer Reply (List ℕ)) (b : Li
 taken-given true d d′ x b e = e
 taken-given false d d′ x b e = absurd (let z : _≡_ {A = ℕ} 0 1 = cc in omega arith)
 
-setup-unit : (d : Device) (n : ℕ) → d .pending ≡ false → 1 ≤ frameCount n → setupDone d n ≡ unitAt (d .link) (d .own) n 0 (d .buffer) 0 false
-unfolding setupDone
-setup-unit d n h some =
+setup-transfer : (n : ℕ) → 1 ≤ frameCount n → newTransfer n ≡ transferAt n 0 emptyBuffer 0 false
+unfolding newTransfer
+setup-transfer n some =
     let none : min 0 n ≡ 0 = omega arith in
-    rw (h, ne-eqb 0 (frameCount n) (omega arith), none)
+    rw (ne-eqb 0 (frameCount n) (omega arith), none)
 
-module _ (file : List ℕ) (w : World) (st : Start file w) where
-  setup-done : w .device ≡ setupDone (st .unit) (length file)
-  unfolding receive messageReply kindReply commandReply afterCommand commandDone
+module _ (file : List ℕ) (w : World Sender) (st : Start file w) where
+  setup-done : w .device ≡ withTransfer (st .unit) (newTransfer (length file))
+  unfolding receive messageReply kindReply commandReply afterCommand commandDone transferDone
   setup-done =
       let received = within-given (st .output) (receive (st .unit) (length (w .store)) (st .bytes)) (answers (w .device)) (st .ack) (st .answered) .0 in
       let served = taken-given (isTaken (st .unit .link) (st .unit .own) (st .message)) (st .unit) (w .device) _ (st .ack) (rw (st .reads) at received) in
       let carried = answered-given (commandDone (st .unit) (st .message .id) (st .payload)) (w .device) _ (st .ack) (rw (st .command, st .carriedOut) at served) in
       sym (rw (st .setup, st .size) at carried)
 
-  pub setup-tests : (st .unit .pending ≡ false) × (length file ≤ length (w .store))
+  pub setup-room : length file ≤ length (w .store)
   unfolding commandFault
-  setup-tests = rw (← st .size) (setup-passed (st .unit) (length (w .store)) (st .payload) (rw (st .setup) at (st .carriedOut)))
+  setup-room = rw (← st .size) (setup-passed (st .unit .transfer) (length (w .store)) (st .payload) (rw (st .setup) at (st .carriedOut)))
 
   sender-checks : (require (sizeLegal (length file)) 11 (require (addressesLegal (st .unit .link) (st .source) (st .destination)) 7 passed) ≡ passed)
-      × (newSender (st .unit .link) (st .source) (st .destination) (length file) ≡ w .sender)
+      × (newSender (st .unit .link) (st .source) (st .destination) (length file) ≡ w .requester)
   unfolding start
-  sender-checks = let g = after-given _ _ (w .sender) tt tt (st .started) in (g .0, g .1)
+  sender-checks = let g = after-given _ _ (w .requester) tt tt (st .started) in (g .0, g .1)
 
   pub size-check : (sizeLegal (length file) ≡ true) × (addressesLegal (st .unit .link) (st .source) (st .destination) ≡ true)
   size-check =
@@ -108,17 +111,16 @@ module _ (file : List ℕ) (w : World) (st : Start file w) where
       record {
         file = file;
         start = w .store;
-        link = st .unit .link;
+        unit = st .unit;
         source = st .source;
         destination = st .destination;
-        own = st .unit .own;
         addressed = addresses (st .unit .link) (st .source) (st .destination) (st .unit .own) (size-check .1) (st .addressed);
         legal = size-check .0;
-        room = setup-tests .1;
+        room = setup-room;
       }
 
-  pub begins : Invariant upload w [] (λ j. waiting) between
-  unfolding upload newSender markOf goodRounds
+  pub begins : Outcome upload w [] (λ j. waiting)
+  unfolding upload newSender markOf
   begins =
       let some = count-legal (length file) (size-check .0) .0 in
       runs (record {
@@ -128,9 +130,9 @@ module _ (file : List ℕ) (w : World) (st : Start file w) where
           stored = 0;
           buffer = free;
           unit = record {
-            buffer = st .unit .buffer;
+            buffer = emptyBuffer;
             buffered = 0;
-            device = setup-done ∙ setup-unit (st .unit) (length file) (setup-tests .0) some;
+            device = setup-done ∙ ap (withTransfer (st .unit)) (setup-transfer (length file) some);
             holding = omega arith;
             stores = sym (store-first file (w .store));
             marked = λ j. rw (le-ltb j 0 zero-le);
@@ -140,5 +142,6 @@ module _ (file : List ℕ) (w : World) (st : Start file w) where
         since = 0;
         sends = sym (sender-checks .1);
         place = tt;
-        course = record { below = omega arith; few = omega arith; noneGood = none-good-yet []; rounds = omega arith; good = omega arith };
+        below = omega arith;
+        course = course-begins;
       })

@@ -1,64 +1,39 @@
--- Demand 3: the invariant at the end of a legal list, and of every beginning of it, says each clause.
-use Prim.Native.Nat.{ℕ, _+_, _*_, _≤_, _<_, min}
+-- Demand 3: the invariant says each clause of the claim, at the end of a legal list and so of every beginning of it. Rounds that are run make
+-- what their calls make, and those are a legal list.
+use Prim.Native.Nat.{ℕ, zero, suc, _+_, _*_, _≤_, _<_}
 use mathlib.Core.Bool.{Bool, true, false, cond, _&&_}
-use mathlib.Core.List.{List, [], _∷_, _++_, append-nil}
-use mathlib.Core.Path.{_≡_, refl, ap}
+use mathlib.Core.List.{List, [], _∷_}
+use mathlib.Core.Path.{_≡_, refl, sym, ap, _∙_}
 use native.Mathlib.Omega.{arith}
 use borrow.Author.Tests.{eq-eqb, lt-ltb, le-ltb}
 use lib.Dec.{eqb}
-use lib.ListN.{length, take, drop}
+use lib.ListN.{length, take, length-append}
+use lib.Seq.{take-at}
+use Rattle.file.specs.File.{frameCount}
 use Rattle.device_rules.specs.declared.Device.{Device}
 use Rattle.device_rules.specs.declared.Phase.the-variants as Phase·of
-use Rattle.upload.specs.Sender.{isRunning, framesKnown}
+use Rattle.round_rules.specs.Good.{Bounded}
+use Rattle.round_rules.specs.Legal.{Place, between, Legal}
+use Rattle.round_rules.specs.Schedule.{scheduled}
+use Rattle.round_rules.specs.World.{World, Call, works, asks, arrives, hears, makes, starts, does, run, isRefused}
+use Rattle.round_rules.specs.declared.State.the-variants.{Running, Finished, GivenUp}
+use Rattle.round_rules.proofs.Counting.{stillRuns, gaveUp as gaveUp′, finished, bounded}
+use Rattle.round_rules.proofs.Lists.{every-beginning}
+use Rattle.round_rules.proofs.Runs.{Same, runs as made-runs}
+use Rattle.round_rules.proofs.Schedules.{goods-length, schedules}
+use Rattle.round_rules.proofs.Steady.{runs, ended, Invariant, note, noted, notes, keeps}
+use Rattle.upload.specs.Demand.{Start, Holds, Claim, EveryUpload, Upheld, Demand, EverySchedule}
+use Rattle.upload.specs.Sender.{framesKnown}
+use Rattle.upload.specs.Sending.{sending}
+use Rattle.upload.specs.Stored.{Mark, waiting, taken, stored, isStored, countStored, markCall, markAfter, framesStored}
+use Rattle.upload.specs.declared.Sender.{Sender}
 use Rattle.upload.specs.declared.Stage.{Stage}
 use Rattle.upload.specs.declared.Stage.the-variants.{Frame, Compare, Take, Confirm}
-use Rattle.upload.specs.declared.State.the-variants.{Finished, GivenUp}
-use Rattle.upload.specs.Demand.{goodRounds, NoFiftyWithout, Demand}
-use Rattle.upload.specs.Legal.{Place, Legal, stops, refuses, workDone, requestMade, requestArrives, requestRepeats, delivered, requestLost, answerLost, twice, endedWorks, endedAsks, endedHears}
-use Rattle.upload.specs.Stored.{Mark, waiting, taken, stored, isStored, countStored, markAfter, framesStored}
-use Rattle.upload.specs.World.{World, Call, run}
 use Rattle.upload.proofs.Begin.{upload, begins}
-use Rattle.upload.proofs.Counting.{count-below, fifty-without}
+use Rattle.upload.proofs.Counting.{count-below}
 use Rattle.upload.proofs.Files.{whole-file}
-use Rattle.upload.proofs.Keeps.{keeps}
-use Rattle.upload.proofs.Table.{Upload, Buffer, free, loaded, pending, isPending, Stands, markOf, frames, Holding, UnitAt, sender, Invariant, runs, gaveUp, done, few-steps}
-
--- A beginning of a legal list is legal.
-cut : (P : List Call → Type 0) (a b : List Call) (c : Call) (h : List Call) → c ∷ h ≡ a ++ b → P [] → ((a′ : List Call) → h ≡ a′ ++ b → P (c ∷ a′)) → P a
-cut P [] b c h e none some = none
-cut P (x ∷ a) b c h e none some =
-    let same : x ≡ c = cc in
-    let rest : h ≡ a ++ b = cc in
-    rw same (some a rest)
-
-abbrev Beginning : List ℕ → World → Place → List Call → Type 0
-Beginning file w p a = (rounds : List Bool) × Legal file w p a rounds
-
-beginning : {file : List ℕ} {w : World} {p : Place} {h : List Call} {rs : List Bool} → Legal file w p h rs → (a b : List Call) → h ≡ a ++ b → Beginning file w p a
-beginning stops [] b q = ([], stops)
-beginning stops (x ∷ a) b q = absurd (let z : _≡_ {A = ℕ} 0 1 = cc in omega arith)
-beginning {file = file} (refuses e r) a b q = cut (Beginning file _ _) a b _ _ q ([], stops) (λ a′ q′. let g = beginning r a′ b q′ in (g .0, refuses e (g .1)))
-beginning {file = file} (workDone n e r) a b q = cut (Beginning file _ _) a b _ _ q ([], stops) (λ a′ q′. let g = beginning r a′ b q′ in (g .0, workDone n e (g .1)))
-beginning {file = file} (requestMade n e r) a b q = cut (Beginning file _ _) a b _ _ q ([], stops) (λ a′ q′. let g = beginning r a′ b q′ in (g .0, requestMade n e (g .1)))
-beginning {file = file} (requestArrives e r) a b q = cut (Beginning file _ _) a b _ _ q ([], stops) (λ a′ q′. let g = beginning r a′ b q′ in (g .0, requestArrives e (g .1)))
-beginning {file = file} (requestRepeats e r) a b q = cut (Beginning file _ _) a b _ _ q ([], stops) (λ a′ q′. let g = beginning r a′ b q′ in (g .0, requestRepeats e (g .1)))
-beginning {file = file} (delivered {d = d} e r) a b q = cut (Beginning file _ _) a b _ _ q ([], stops) (λ a′ q′. let g = beginning r a′ b q′ in (d ∷ g .0, delivered e (g .1)))
-beginning {file = file} (requestLost e r) a b q = cut (Beginning file _ _) a b _ _ q ([], stops) (λ a′ q′. let g = beginning r a′ b q′ in (false ∷ g .0, requestLost e (g .1)))
-beginning {file = file} (answerLost e r) a b q = cut (Beginning file _ _) a b _ _ q ([], stops) (λ a′ q′. let g = beginning r a′ b q′ in (false ∷ g .0, answerLost e (g .1)))
-beginning {file = file} (twice {d = d} e r) a b q = cut (Beginning file _ _) a b _ _ q ([], stops) (λ a′ q′. let g = beginning r a′ b q′ in (d ∷ g .0, twice e (g .1)))
-beginning {file = file} (endedWorks n e r) a b q = cut (Beginning file _ _) a b _ _ q ([], stops) (λ a′ q′. let g = beginning r a′ b q′ in (g .0, endedWorks n e (g .1)))
-beginning {file = file} (endedAsks n r) a b q = cut (Beginning file _ _) a b _ _ q ([], stops) (λ a′ q′. let g = beginning r a′ b q′ in (g .0, endedAsks n (g .1)))
-beginning {file = file} (endedHears n r) a b q = cut (Beginning file _ _) a b _ _ q ([], stops) (λ a′ q′. let g = beginning r a′ b q′ in (g .0, endedHears n (g .1)))
-
--- What the invariant says at any moment: k frames are stored, counted from the calls, and so many or one fewer are known.
-pub record Moment (u : Upload) (w : World) (past : List Bool) (marks : ℕ → Mark) : Type 0 where
-  pub count : ℕ
-  pub counted : countStored marks (frames u) ≡ count
-  pub store : w .store ≡ take (256 * count) (u .file) ++ drop (min (256 * count) (length (u .file))) (u .start)
-  pub stored : w .device .stored ≡ min (256 * count) (length (u .file))
-  pub low : framesKnown (w .sender) ≤ count
-  pub high : count ≤ framesKnown (w .sender) + 1
-  pub used : w .sender .rounds ≡ length past
+use Rattle.upload.proofs.Keeps.{shape, steady, steady-free}
+use Rattle.upload.proofs.Table.{Upload, Buffer, free, loaded, pending, isPending, Stands, markOf, frames, Holding, UnitAt, Row, gaveUp, done, few-steps}
 
 stored-mark : (i : ℕ) (b : Buffer) (j : ℕ) → j < i → isStored (markOf i b j) ≡ true
 unfolding markOf isStored
@@ -77,86 +52,131 @@ stored-most u i free content h = h
 stored-most u i loaded content h = omega (arith, h .0)
 stored-most u i pending content h = omega (arith, h .0)
 
-module _ (u : Upload) (w : World) (past : List Bool) (marks : ℕ → Mark) where
-  moment-at : (i : ℕ) (b : Buffer) → UnitAt u i b (w .device) (w .store) marks → framesKnown (w .sender) ≤ i → i ≤ framesKnown (w .sender) + 1 → w .sender .rounds ≡ length past → Moment u w past marks
-  moment-at i b h low high used =
-      record {
-        count = i;
-        counted = count-below marks i (frames u) (stored-most u i b _ (h .holding)) (λ j k. rw (h .marked j) (stored-mark i b j k)) (λ j k. rw (h .marked j) (other-mark i b j k));
-        store = h .stores;
-        stored = ap (λ (d : Device). d .stored) (h .device);
-        low = low;
-        high = high;
-        used = used;
-      }
+-- The frames that are stored are those known, or one more.
+known-between : (stage : Stage) (b : Buffer) (f i : ℕ) → Stands stage b f i → (f ≤ i) × (i ≤ f + 1)
+known-between Frame free f i e = (omega arith, omega arith)
+known-between Frame loaded f i e = (omega arith, omega arith)
+known-between Compare loaded f i e = (omega arith, omega arith)
+known-between Take free f i e = (omega arith, omega arith)
+known-between Take loaded f i e = (omega arith, omega arith)
+known-between Take pending f i e = (omega arith, omega arith)
+known-between Confirm free f i e = (omega arith, omega arith)
+known-between Confirm pending f i e = (omega arith, omega arith)
 
-  known-between : (stage : Stage) (b : Buffer) (f i : ℕ) → Stands stage b f i → (f ≤ i) × (i ≤ f + 1)
-  known-between Frame free f i e = (omega arith, omega arith)
-  known-between Frame loaded f i e = (omega arith, omega arith)
-  known-between Compare loaded f i e = (omega arith, omega arith)
-  known-between Take free f i e = (omega arith, omega arith)
-  known-between Take loaded f i e = (omega arith, omega arith)
-  known-between Take pending f i e = (omega arith, omega arith)
-  known-between Confirm free f i e = (omega arith, omega arith)
-  known-between Confirm pending f i e = (omega arith, omega arith)
+module _ (u : Upload) (w : World Sender) (past : List Bool) (marks : ℕ → Mark) where
+  -- k, counted from the calls, is the number of frames that the unit has stored.
+  counted : (i : ℕ) (b : Buffer) → UnitAt u i b (w .device) (w .store) marks → countStored marks (frames u) ≡ i
+  counted i b h = count-below marks i (frames u) (stored-most u i b _ (h .holding)) (λ j k. rw (h .marked j) (stored-mark i b j k)) (λ j k. rw (h .marked j) (other-mark i b j k))
 
-  moment : {p : Place} → Invariant u w past marks p → Moment u w past marks
+  abbrev Whole : Type 0
+  Whole = w .requester .state ≡ Finished
+      → (take (length (u .file)) (w .store) ≡ u .file) × (w .device .transfer .phase ≡ Phase·of.Finished) × (framesKnown (w .requester) ≡ frames u)
+
+  holds-at : (i : ℕ) (b : Buffer) → UnitAt u i b (w .device) (w .store) marks → (framesKnown (w .requester) ≤ i) × (i ≤ framesKnown (w .requester) + 1) → Whole
+      → Holds (u .file) (u .start) (countStored marks (frames u)) w
+  holds-at i b h known whole = rw (counted i b h) (record { beginning = (h .stores, ap (λ (d : Device). d .transfer .stored) (h .device)); whole = whole; known = known })
+
+  -- A row of the table, where the sender runs or has given up,
+  row-holds : (h : Row u (w .device) (w .store) marks) → framesKnown (w .requester) ≡ h .frame → Whole → Holds (u .file) (u .start) (countStored marks (frames u)) w
+  row-holds h known whole =
+      let k = known-between (h .stage) (h .buffer) (h .frame) (h .stored) (h .stands) in
+      holds-at (h .stored) (h .buffer) (h .unit) (rw known k) whole
+
+  -- or all of it, where it has finished.
+  holds : {p : Place} → Invariant (shape u) w past marks p → Holds (u .file) (u .start) (countStored marks (frames u)) w
   unfolding framesKnown
-  moment (runs h) =
-      let k = known-between (h .row .stage) (h .row .buffer) (h .row .frame) (h .row .stored) (h .row .stands) in
-      moment-at (h .row .stored) (h .row .buffer) (h .row .unit) (rw (h .sends) (k .0)) (rw (h .sends) (k .1)) (rw (h .sends))
-  moment (gaveUp h) =
-      let k = known-between (h .row .stage) (h .row .buffer) (h .row .frame) (h .row .stored) (h .row .stands) in
-      moment-at (h .row .stored) (h .row .buffer) (h .row .unit) (rw (h .sends) (k .0)) (rw (h .sends) (k .1)) (rw (h .sends))
-  moment (done h) = moment-at (frames u) free (h .unit) (rw (h .sends) (omega (arith, h .last))) (rw (h .sends) (omega (arith, h .last))) (rw (h .sends))
+  holds (runs h) = row-holds (h .row) (rw (h .sends)) (λ e. absurd (let z : _≡_ {A = ℕ} 0 1 = cc (rw (h .sends) at e) in omega arith))
+  holds (ended (gaveUp h)) = row-holds (h .row) (rw (h .sends)) (λ e. absurd (let z : _≡_ {A = ℕ} 0 1 = cc (rw (h .sends) at e) in omega arith))
+  holds (ended (done h)) =
+      holds-at (frames u) free (h .unit) (rw (h .sends) (omega (arith, h .last)), rw (h .sends) (omega (arith, h .last)))
+      (λ e. (rw (h .unit .stores) (whole-file (u .file) (u .start)), rw (h .unit .device, eq-eqb (frames u) (frames u) refl), rw (h .sends) (h .last)))
 
-  -- A running sender has had fewer than 200 rounds a frame, and fewer than four good ones.
-  end : {p : Place} → Invariant u w past marks p → 200 * frames u ≤ length past → isRunning (w .sender .state) ≡ false
-  end (runs h) most = absurd (omega (arith, h .course .rounds, h .course .below, h .course .few, few-steps (h .row .stage)))
-  end (gaveUp h) most = rw (h .sends)
-  end (done h) most = rw (h .sends)
+  -- Four steps a frame.
+  bounds : {p : Place} → Invariant (shape u) w past marks p → Bounded (4 * frames u) past (w .requester .state)
+  bounds (runs h) = rw (h .sends) (bounded (4 * frames u) past Running (stillRuns _ (h .since) (h .course) (omega (arith, h .below, few-steps (h .row .stage)))))
+  bounds (ended (gaveUp h)) = rw (h .sends) (bounded (4 * frames u) past GivenUp (gaveUp′ (h .noneGood)))
+  bounds (ended (done h)) = rw (h .sends) (bounded (4 * frames u) past Finished finished)
 
-  persist : {p : Place} → Invariant u w past marks p → NoFiftyWithout past → w .sender .state ≡ GivenUp → ⊥
-  persist (runs h) none e = absurd (let z : _≡_ {A = ℕ} 0 1 = cc (rw (h .sends) at e) in omega arith)
-  persist (gaveUp h) none e = fifty-without past [] (h .noneGood) (rw append-nil none)
-  persist (done h) none e = absurd (let z : _≡_ {A = ℕ} 0 1 = cc (rw (h .sends) at e) in omega arith)
+  used : {p : Place} → Invariant (shape u) w past marks p → w .requester .rounds ≡ length past
+  used (runs h) = rw (h .sends)
+  used (ended (gaveUp h)) = rw (h .sends)
+  used (ended (done h)) = rw (h .sends)
 
-  finish : {p : Place} → Invariant u w past marks p → NoFiftyWithout past → 4 * frames u ≤ goodRounds past → w .sender .state ≡ Finished
-  finish (runs h) none most = absurd (omega (arith, h .course .good, h .course .below, few-steps (h .row .stage)))
-  finish (gaveUp h) none most = absurd (fifty-without past [] (h .noneGood) (rw append-nil none))
-  finish (done h) none most = rw (h .sends)
+claims : {file start : List ℕ} {k : ℕ} {v : World Sender} {rounds : List Bool} → Holds file start k v → Bounded (4 * frameCount (length file)) rounds (v .requester .state)
+    → Claim file start k v rounds
+claims h b = record { holds = h; ended = λ most. b .ended (omega (arith, most)); persists = b .persists; finishes = b .finishes }
 
-  -- A finished sender leaves the whole file.
-  hold : {p : Place} → Invariant u w past marks p → w .sender .state ≡ Finished
-      → (take (length (u .file)) (w .store) ≡ u .file) × (w .device .phase ≡ Phase·of.Finished) × (framesKnown (w .sender) ≡ frames u)
-  unfolding framesKnown
-  hold (runs h) e = absurd (let z : _≡_ {A = ℕ} 0 1 = cc (rw (h .sends) at e) in omega arith)
-  hold (gaveUp h) e = absurd (let z : _≡_ {A = ℕ} 0 1 = cc (rw (h .sends) at e) in omega arith)
-  hold (done h) e = (
-    rw (h .unit .stores) (whole-file (u .file) (u .start)),
-    rw (h .unit .device, eq-eqb (frames u) (frames u) refl),
-    rw (h .sends) (h .last),
-  )
+-- The marks that the calls leave, frame by frame.
+cond-at : (b : Bool) (f g : ℕ → Mark) (j : ℕ) → cond b f g j ≡ cond b (f j) (g j)
+cond-at true f g j = refl
+cond-at false f g j = refl
+
+notes-marks : (u : Upload) (w : World Sender) (h : List Call) (marks : ℕ → Mark) (j : ℕ) → notes (sending (u .file)) (shape u) w h marks j ≡ markAfter (sending (u .file)) w h j (marks j)
+unfolding notes noted note markAfter markCall
+notes-marks u w [] marks j = refl
+notes-marks u w (c ∷ h) marks j =
+    notes-marks u _ h _ j
+    ∙ ap (markAfter (sending (u .file)) (does (sending (u .file)) w c) h j)
+    (cond-at (isRefused (sending (u .file)) w c) marks (note (sending (u .file)) (shape u) w c marks) j ∙ ap (cond (isRefused (sending (u .file)) w c) (marks j)) (one c))
+  where
+    one : (c : Call) → note (sending (u .file)) (shape u) w c marks j ≡ markCall j w c (marks j)
+    one (works l) = refl
+    one (asks l out) = refl
+    one (arrives b l out) = refl
+    one (hears l b) = refl
+    one (makes l own) = refl
+    one (starts s) = refl
+
+same-count : (f g : ℕ → Mark) (n : ℕ) → ((j : ℕ) → f j ≡ g j) → countStored f n ≡ countStored g n
+unfolding countStored
+same-count f g zero e = refl
+same-count f g (suc n) e = rw (e n, same-count f g n e)
+
+module _ (file : List ℕ) (w : World Sender) (st : Start file w) where
+  reached : {h : List Call} {rounds : List Bool} → Legal (sending file) w between h rounds
+      → (p : Place) × Invariant (shape (upload file w st)) (run (sending file) w h) rounds (notes (sending file) (shape (upload file w st)) w h (λ j. waiting)) p
+  unfolding upload
+  reached legal = keeps (steady (upload file w st)) legal [] (λ j. waiting) (begins file w st)
+
+  bound : {h : List Call} {rounds : List Bool} → Legal (sending file) w between h rounds → Bounded (4 * frameCount (length file)) rounds (run (sending file) w h .requester .state)
+  unfolding upload
+  bound legal = bounds (upload file w st) _ _ _ (reached legal .1)
+
+  upheld : (h : List Call) (rounds : List Bool) → Legal (sending file) w between h rounds → Upheld file w h rounds
+  unfolding upload framesStored
+  upheld h rounds legal =
+      let u = upload file w st in
+      let i = reached legal .1 in
+      let k = same-count _ _ (frames u) (notes-marks u w h (λ j. waiting)) in
+      record { claim = claims (rw k at (holds u _ _ _ i)) (bound legal); used = used u _ _ _ i }
 
 pub demand : Demand
-unfolding framesStored upload
 demand file w st h rounds legal =
-    let u = upload file w st in
-    let kept = keeps u legal [] (λ j. waiting) (begins file w st) in
-    let last = run file w h in
-    let marks : ℕ → Mark = λ j. markAfter file w h j waiting in
     record {
-      beginning = λ past rest e.
-          let b = beginning legal past rest e in
-          let m = moment u (run file w past) (b .0) _ (keeps u (b .1) [] (λ j. waiting) (begins file w st) .1) in
-          rw (m .counted) (m .store, m .stored);
-      ended = λ most. end u last rounds marks (kept .1) (omega (arith, most));
-      persists = persist u last rounds marks (kept .1);
-      finishes = λ none most. finish u last rounds marks (kept .1) none (omega (arith, most));
-      whole = hold u last rounds marks (kept .1);
-      known = λ past rest e.
-          let b = beginning legal past rest e in
-          let m = moment u (run file w past) (b .0) _ (keeps u (b .1) [] (λ j. waiting) (begins file w st) .1) in
-          rw (m .counted) (m .low, m .high);
-      used = moment u last rounds marks (kept .1) .used;
+      end = upheld file w st h rounds legal;
+      every = λ past rest e. let b = every-beginning Sender (sending file) w between past rest rounds (rw e at legal) in (b, upheld file w st past (b .first) (b .legal));
+    }
+
+pub every-schedule : EverySchedule
+unfolding upload
+every-schedule file w st rs = schedules (steady (upload file w st)) (steady-free (upload file w st)) rs w [] (λ j. waiting) (begins file w st)
+
+same-holds : (file start : List ℕ) (k : ℕ) (v v′ : World Sender) → Same v v′ → Holds file start k v′ → Holds file start k v
+same-holds file start k v v′ s h =
+    record { beginning = rw (s .store, s .device) (h .beginning); whole = rw (s .store, s .device, s .requester) (h .whole); known = rw (s .requester) (h .known) }
+
+pub every-upload : EveryUpload
+unfolding upload
+every-upload file w st rs =
+    let u = upload file w st in
+    let run-rounds = made-runs (steady u) (steady-free u) rs w w [] (λ j. waiting) (record { device = refl; store = refl; requester = refl }) (begins file w st) in
+    let s = run-rounds .1 in
+    let r = every-schedule file w st rs in
+    let last = upheld file w st (scheduled (sending file) w rs) (r .rounds) (r .legal) in
+    let own = take-at (r .rounds) (r .later) (length (r .rounds)) refl in
+    let lengths : length rs ≡ length (r .rounds) + length (r .later) = sym (goods-length rs) ∙ ap length (r .same) ∙ length-append (r .rounds) (r .later) in
+    record {
+      claim = claims (same-holds file (w .store) _ _ _ s (last .claim .holds)) (rw (s .requester, last .used, r .same, own) (bound file w st (r .legal)));
+      used = (rw (s .requester, last .used) (omega (arith, lengths)), λ e. rw (s .requester, last .used) (omega (arith, lengths, ap length (r .over (rw (s .requester) at e)))));
+      unrefused = run-rounds .0;
     }

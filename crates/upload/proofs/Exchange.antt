@@ -35,9 +35,12 @@ Addressed Csp s t own = Unit
 abbrev pub requestOf : Kind → ℕ → ℕ → ℕ → Message
 requestOf k id s t = record { kind = k; id = id; source = s; destination = t; error = Told 0; index = 0 }
 
--- The request of a stage, as the unit reads it.
+-- The request of a stage, and as the unit reads it.
+abbrev pub requestAt : ℕ → ℕ → Stage → Message
+requestAt s t stage = requestOf (requestKind stage) (requestId stage) s t
+
 abbrev pub requestRead : Link → ℕ → ℕ → Stage → Message
-requestRead l s t stage = linkCarried l (requestOf (requestKind stage) (requestId stage) s t)
+requestRead l s t stage = linkCarried l (requestAt s t stage)
 
 -- An answer to a message.
 abbrev pub answerOf : Link → ℕ → Message → Kind → ℕ → ℕ → Message

@@ -1,8 +1,8 @@
-pub mod Files
 pub mod Counting
-pub mod Refused
+pub mod Files
 pub mod Exchange
 pub mod Situations
+pub mod Steps
 pub mod Served
 pub mod Table
 pub mod Working
@@ -12,4 +12,3 @@ pub mod Hearing
 pub mod Keeps
 pub mod Begin
 pub mod Demand
-pub mod Schedules

@@ -7,7 +7,7 @@ use mathlib.Core.Path.{_≡_, refl, _∙_}
 use native.Mathlib.Omega.{arith}
 use borrow.Author.Tests.{eq-eqb, ne-eqb}
 use lib.Dec.{eqb}
-use lib.ListN.{length, getD, take, drop, replicate}
+use lib.ListN.{length, getD, take, drop}
 use Rattle.message.specs.Answer.{given, require, about}
 use Rattle.message.specs.Checks.{idLegal, payloadLegal, errorLegal, fieldChecks, told}
 use Rattle.message.specs.Kinds.{inside, isEvent, carriedOn}
@@ -18,13 +18,13 @@ use Rattle.little_endian.specs.LittleEndian.{toBytes, fromBytes}
 use Rattle.checksum.specs.Checksum.{checksum}
 use Rattle.checksum.proofs.Laws.{checksum-below}
 use Rattle.file.specs.File.{frameCount, fileFrame}
-use Rattle.link.specs.Link.{linkCarried, linkRead, linkWrite, mostBytes}
+use Rattle.link.specs.Link.{linkCarried, linkRead, linkWrite}
 use Rattle.link.specs.declared.Link.{Link}
-use Rattle.link.proofs.RoundTrip.{id-arrives}
-use Rattle.device_rules.specs.Device.{isFinished, frame}
+use Rattle.link.proofs.RoundTrip.{Underway, id-arrives}
+use Rattle.device_rules.specs.Device.{isFinished, frame, emptyBuffer, withTransfer}
 use Rattle.device_rules.specs.declared.Device.{Device}
 use Rattle.device_rules.specs.declared.Phase.the-variants.{Open, Finished}
-use Rattle.device_rules.specs.Commands.{commandDone, takeDone, frameDone, afterCommand}
+use Rattle.device_rules.specs.Commands.{takeDone, frameDone, transferDone, commandDone, afterCommand}
 use Rattle.device_rules.specs.Receive.{answers, answerTo, infoBytes, commandAnswer, commandReply, telemetryReply, kindReply, messageReply, receive}
 use Rattle.upload.specs.Round.{fits, takenError, infoNumber, infoSize, infoChecksum, compared, confirmed, informed, ackMeaning, nackMeaning, infoMeaning, kindMeaning, meaning}
 use Rattle.upload.specs.Sender.{requestKind, requestId}
@@ -33,17 +33,19 @@ use Rattle.upload.specs.declared.Meaning.the-variants.{Stay, Forward}
 use Rattle.upload.specs.declared.Sender.{Sender}
 use Rattle.upload.specs.declared.Stage.{Stage}
 use Rattle.upload.specs.declared.Stage.the-variants.{Frame, Back, Compare, Take, Confirm}
-use Rattle.upload.specs.declared.State.the-variants.{Running}
+use Rattle.round_rules.specs.declared.State.the-variants.{Running}
 use Rattle.upload.proofs.Exchange.{Addressed, requestOf, requestRead, answerOf, Plain, answer-arrives, request-taken, answer-fits, taken-told}
-use Rattle.device_rules.proofs.Faults.{unitAt, frame-taken, take-taken, take-pending, take-stored}
+use Rattle.device_rules.proofs.Faults.{transferAt, frame-taken, take-taken, take-pending, take-stored}
 use Rattle.upload.proofs.Situations.{senderAt}
 
 -- Bytes arrive at a unit: it becomes another, and its answer means something to the sender.
 pub record Served (file : List ℕ) (s : Sender) (d : Device) (store : ℕ) (b : List ℕ) (d′ : Device) (x : Meaning) : Type 0 where
+  pub answer : Message
+  pub payload : List ℕ
   pub bytes : List ℕ
+  pub underway : Underway (s .link) answer payload bytes
   pub gives : receive d store b ≡ given (answers d′) bytes
   pub means : meaning s file (linkRead (s .link) bytes) ≡ x
-  pub short : length bytes ≤ mostBytes (s .link)
 
 -- The three numbers of a frame info, and its flags, which never have the error bit.
 module _ (number size check : ℕ) (flags : ℕ) where
@@ -107,7 +109,17 @@ no-event Compare = refl
 no-event Take = refl
 no-event Confirm = refl
 
-module _ (l : Link) (s t own : ℕ) (a : Addressed l s t own) (file : List ℕ) (n i store : ℕ) where
+-- A unit with a transfer of a file of n bytes, and a sender at frame i of it.
+module _ (d : Device) (s t : ℕ) (a : Addressed (d .link) s t (d .own)) (file : List ℕ) (n i store : ℕ) where
+  abbrev l : Link
+  l = d .link
+
+  abbrev own : ℕ
+  own = d .own
+
+  abbrev unit : ℕ → List ℕ → ℕ → Bool → Device
+  unit j buffer buffered pending = withTransfer d (transferAt n j buffer buffered pending)
+
   abbrev asked : Stage → Message
   asked stage = requestRead l s t stage
 
@@ -117,20 +129,22 @@ module _ (l : Link) (s t own : ℕ) (a : Addressed l s t own) (file : List ℕ) 
 
   module _ (stage : Stage) (since rounds : ℕ) (b p : List ℕ) (reads : linkRead l b ≡ given (asked stage) p) where
     served : (j : ℕ) (buffer : List ℕ) (buffered : ℕ) (pending : Bool) (d′ : Device) (k : Kind) (e : ℕ) (q : List ℕ) (x : Meaning)
-        → kindReply (requestKind stage) (unitAt l own n j buffer buffered pending) store (asked stage) p ≡ about (answers d′) (linkWrite l (told-by stage k e) q)
+        → kindReply (requestKind stage) (unit j buffer buffered pending) store (asked stage) p ≡ about (answers d′) (linkWrite l (told-by stage k e) q)
         → Plain (told-by stage k e) q
         → kindMeaning k (senderAt l s t n i stage since rounds Running) file (linkCarried l (told-by stage k e)) q ≡ x
-        → Served file (senderAt l s t n i stage since rounds Running) (unitAt l own n j buffer buffered pending) store b d′ x
+        → Served file (senderAt l s t n i stage since rounds Running) (unit j buffer buffered pending) store b d′ x
     unfolding receive messageReply about meaning fits linkCarried carriedOn
     served j buffer buffered pending d′ k e q x reply plain means =
         let back = answer-arrives l s t own (asked stage) k e 0 q a plain in
         let id : linkCarried l (told-by stage k e) .id ≡ requestId stage =
         id-arrives l (told-by stage k e) (plain .plain) ∙ id-arrives l (requestOf (requestKind stage) (requestId stage) s t) (no-event stage) in
         record {
-          bytes = back .bytes;
-          gives = rw (reads, request-taken l s t own (requestId stage) (requestKind stage) a, reply, back .wrote);
-          means = rw (back .reads, eq-eqb (linkCarried l (told-by stage k e) .id) (requestId stage) id, answer-fits l s t own (requestId stage) (requestKind stage) k e 0 a) means;
-          short = back .most;
+          answer = told-by stage k e;
+          payload = q;
+          bytes = back .0;
+          underway = back .1;
+          gives = rw (reads, request-taken l s t own (requestId stage) (requestKind stage) a, reply, back .1 .wrote);
+          means = rw (back .1 .reads, eq-eqb (linkCarried l (told-by stage k e) .id) (requestId stage) id, answer-fits l s t own (requestId stage) (requestKind stage) k e 0 a) means;
         }
 
   module _ (since rounds : ℕ) (b buffer : List ℕ) (buffered : ℕ) where
@@ -139,51 +153,51 @@ module _ (l : Link) (s t own : ℕ) (a : Addressed l s t own) (file : List ℕ) 
 
     -- A: the frame replaces what is in the buffer, and is acked.
     pub served-frame : (p : List ℕ) → linkRead l b ≡ given (asked Frame) p → i < frameCount n → 1 ≤ length p → length p ≤ 256
-        → Served file (sender Frame) (unitAt l own n i buffer buffered false) store b (unitAt l own n i (p ++ drop (length p) (replicate 256 0)) (length p) false) Forward
-    unfolding linkCarried carriedOn isEvent kindReply commandReply commandAnswer afterCommand commandDone frameDone answerTo told fieldChecks idLegal payloadLegal errorLegal inside require kindMeaning ackMeaning
+        → Served file (sender Frame) (unit i buffer buffered false) store b (unit i (p ++ drop (length p) emptyBuffer) (length p) false) Forward
+    unfolding linkCarried carriedOn isEvent kindReply commandReply commandAnswer afterCommand commandDone transferDone frameDone answerTo told fieldChecks idLegal payloadLegal errorLegal inside require kindMeaning ackMeaning
     served-frame p reads h some most =
-        served Frame since rounds b p reads i buffer buffered false _ TelecommandAck 0 [] Forward (rw (frame-taken l own n i store buffer buffered p h some most)) (record { plain = refl; tells = refl; fields = refl }) refl
+        served Frame since rounds b p reads i buffer buffered false _ TelecommandAck 0 [] Forward (rw (frame-taken d n i store buffer buffered p h some most)) (record { plain = refl; tells = refl; fields = refl }) refl
 
     -- B: frame info tells the size and the checksum of the frame in the buffer.
     pub served-compare : (p : List ℕ) → linkRead l b ≡ given (asked Compare) p → take buffered buffer ≡ fileFrame file i → length (fileFrame file i) ≤ 256
-        → Served file (sender Compare) (unitAt l own n i buffer buffered false) store b (unitAt l own n i buffer buffered false) Forward
+        → Served file (sender Compare) (unit i buffer buffered false) store b (unit i buffer buffered false) Forward
     unfolding linkCarried carriedOn isEvent kindReply telemetryReply answerTo told fieldChecks idLegal payloadLegal errorLegal inside require infoBytes frame kindMeaning infoMeaning
     served-compare p reads loaded most =
-        served Compare since rounds b p reads i buffer buffered false _ TelemetryResponse 0 (infoBytes (unitAt l own n i buffer buffered false)) Forward refl
+        served Compare since rounds b p reads i buffer buffered false _ TelemetryResponse 0 (infoBytes (transferAt n i buffer buffered false)) Forward refl
         (record { plain = refl; tells = refl; fields = rw (info-length _ _ _ _) })
         (rw loaded (info-compared ((i + 65535) % 65536) (fileFrame file i) (eqb i (frameCount n)) most))
 
     -- C: take frame i makes it pending, and is acked;
     pub served-take : linkRead l b ≡ given (asked Take) (toBytes 2 i) → i < frameCount n → i < 65535 → 1 ≤ length (take buffered buffer) → length (take buffered buffer) ≤ n - min (256 * i) n
-        → Served file (sender Take) (unitAt l own n i buffer buffered false) store b (unitAt l own n i buffer buffered true) Forward
-    unfolding linkCarried carriedOn isEvent kindReply commandReply commandAnswer afterCommand commandDone takeDone answerTo told fieldChecks idLegal payloadLegal errorLegal inside require kindMeaning ackMeaning
+        → Served file (sender Take) (unit i buffer buffered false) store b (unit i buffer buffered true) Forward
+    unfolding linkCarried carriedOn isEvent kindReply commandReply commandAnswer afterCommand commandDone transferDone takeDone answerTo told fieldChecks idLegal payloadLegal errorLegal inside require kindMeaning ackMeaning
     served-take reads h small some fits =
-        served Take since rounds b (toBytes 2 i) reads i buffer buffered false _ TelecommandAck 0 [] Forward (rw (take-taken l own n i store buffer buffered h small some fits)) (record { plain = refl; tells = refl; fields = refl }) refl
+        served Take since rounds b (toBytes 2 i) reads i buffer buffered false _ TelecommandAck 0 [] Forward (rw (take-taken d n i store buffer buffered h small some fits)) (record { plain = refl; tells = refl; fields = refl }) refl
 
     -- while it is pending the repeat gets nack 6,
-    pub served-pending : linkRead l b ≡ given (asked Take) (toBytes 2 i) → Served file (sender Take) (unitAt l own n i buffer buffered true) store b (unitAt l own n i buffer buffered true) Forward
+    pub served-pending : linkRead l b ≡ given (asked Take) (toBytes 2 i) → Served file (sender Take) (unit i buffer buffered true) store b (unit i buffer buffered true) Forward
     unfolding linkCarried carriedOn isEvent kindReply commandReply commandAnswer afterCommand answerTo told fieldChecks idLegal payloadLegal errorLegal inside require kindMeaning nackMeaning takenError
     served-pending reads =
-        served Take since rounds b (toBytes 2 i) reads i buffer buffered true _ TelecommandNack 6 [] Forward (rw (take-pending l own n i store buffer buffered)) (record { plain = refl; tells = refl; fields = refl }) (rw (taken-told l 6 refl))
+        served Take since rounds b (toBytes 2 i) reads i buffer buffered true _ TelecommandNack 6 [] Forward (rw (take-pending d n i store buffer buffered)) (record { plain = refl; tells = refl; fields = refl }) (rw (taken-told l 6 refl))
 
     -- and once it is stored nack 3.
-    pub served-stored : linkRead l b ≡ given (asked Take) (toBytes 2 i) → i < 65535 → Served file (sender Take) (unitAt l own n (i + 1) buffer buffered false) store b (unitAt l own n (i + 1) buffer buffered false) Forward
+    pub served-stored : linkRead l b ≡ given (asked Take) (toBytes 2 i) → i < 65535 → Served file (sender Take) (unit (i + 1) buffer buffered false) store b (unit (i + 1) buffer buffered false) Forward
     unfolding linkCarried carriedOn isEvent kindReply commandReply commandAnswer afterCommand answerTo told fieldChecks idLegal payloadLegal errorLegal inside require kindMeaning nackMeaning takenError
     served-stored reads small =
-        served Take since rounds b (toBytes 2 i) reads (i + 1) buffer buffered false _ TelecommandNack 3 [] Forward (rw (take-stored l own n i store buffer buffered small)) (record { plain = refl; tells = refl; fields = refl }) (rw (taken-told l 3 refl))
+        served Take since rounds b (toBytes 2 i) reads (i + 1) buffer buffered false _ TelecommandNack 3 [] Forward (rw (take-stored d n i store buffer buffered small)) (record { plain = refl; tells = refl; fields = refl }) (rw (taken-told l 3 refl))
 
     -- D: while it is pending frame info tells the number before it,
-    pub served-waiting : (p : List ℕ) → linkRead l b ≡ given (asked Confirm) p → i < 65535 → Served file (sender Confirm) (unitAt l own n i buffer buffered true) store b (unitAt l own n i buffer buffered true) Stay
+    pub served-waiting : (p : List ℕ) → linkRead l b ≡ given (asked Confirm) p → i < 65535 → Served file (sender Confirm) (unit i buffer buffered true) store b (unit i buffer buffered true) Stay
     unfolding linkCarried carriedOn isEvent kindReply telemetryReply answerTo told fieldChecks idLegal payloadLegal errorLegal inside require infoBytes frame kindMeaning infoMeaning
     served-waiting p reads small =
-        served Confirm since rounds b p reads i buffer buffered true _ TelemetryResponse 0 (infoBytes (unitAt l own n i buffer buffered true)) Stay refl
+        served Confirm since rounds b p reads i buffer buffered true _ TelemetryResponse 0 (infoBytes (transferAt n i buffer buffered true)) Stay refl
         (record { plain = refl; tells = refl; fields = rw (info-length _ _ _ _) })
         (info-confirmed ((i + 65535) % 65536) _ _ i (eqb i (frameCount n)) (omega arith) ∙ rw (ne-eqb ((i + 65535) % 65536) i (omega arith)))
 
     -- and once it is stored its own.
-    pub served-confirmed : (p : List ℕ) → linkRead l b ≡ given (asked Confirm) p → i < 65535 → Served file (sender Confirm) (unitAt l own n (i + 1) buffer buffered false) store b (unitAt l own n (i + 1) buffer buffered false) Forward
+    pub served-confirmed : (p : List ℕ) → linkRead l b ≡ given (asked Confirm) p → i < 65535 → Served file (sender Confirm) (unit (i + 1) buffer buffered false) store b (unit (i + 1) buffer buffered false) Forward
     unfolding linkCarried carriedOn isEvent kindReply telemetryReply answerTo told fieldChecks idLegal payloadLegal errorLegal inside require infoBytes frame kindMeaning infoMeaning
     served-confirmed p reads small =
-        served Confirm since rounds b p reads (i + 1) buffer buffered false _ TelemetryResponse 0 (infoBytes (unitAt l own n (i + 1) buffer buffered false)) Forward refl
+        served Confirm since rounds b p reads (i + 1) buffer buffered false _ TelemetryResponse 0 (infoBytes (transferAt n (i + 1) buffer buffered false)) Forward refl
         (record { plain = refl; tells = refl; fields = rw (info-length _ _ _ _) })
         (info-confirmed ((i + 1 + 65535) % 65536) _ _ i (eqb (i + 1) (frameCount n)) (omega arith) ∙ rw (eq-eqb ((i + 1 + 65535) % 65536) i (omega arith)))

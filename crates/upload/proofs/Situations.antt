@@ -3,7 +3,7 @@ use Prim.Native.Nat.{ℕ}
 use Rattle.link.specs.declared.Link.{Link}
 use Rattle.upload.specs.declared.Sender.{Sender}
 use Rattle.upload.specs.declared.Stage.{Stage}
-use Rattle.upload.specs.declared.State.{State}
+use Rattle.round_rules.specs.declared.State.{State}
 
 -- A sender from s to t of a file of n bytes.
 abbrev pub senderAt : Link → ℕ → ℕ → ℕ → ℕ → Stage → ℕ → ℕ → State → Sender

@@ -6,38 +6,38 @@ use mathlib.Core.Path.{_≡_}
 use lib.Dec.{ltb, eqb}
 use native.Mathlib.Omega.{arith}
 use lib.ListN.{length, take, drop}
-use Rattle.message.specs.Answer.{given}
+use Rattle.message.specs.declared.Message.{Message}
 use Rattle.file.specs.File.{sizeLegal, frameCount, fileFrame}
 use Rattle.link.specs.Link.{linkRead}
-use Rattle.link.specs.declared.Link.{Link}
 use Rattle.device_rules.specs.declared.Device.{Device}
-use Rattle.upload.specs.Round.{meaning}
+use Rattle.upload.specs.Round.{meaning, stageSteps}
 use Rattle.upload.specs.Sender.{requestPayload}
 use Rattle.upload.specs.declared.Meaning.{Meaning}
 use Rattle.upload.specs.declared.Meaning.the-variants.{Stay, Forward, Differs, Flagged}
 use Rattle.upload.specs.declared.Sender.{Sender}
 use Rattle.upload.specs.declared.Stage.{Stage}
 use Rattle.upload.specs.declared.Stage.the-variants.{Frame, Back, Compare, Take, Confirm}
-use Rattle.upload.specs.declared.State.{State}
-use Rattle.upload.specs.declared.State.the-variants.{Running, Finished, GivenUp}
-use Rattle.upload.specs.Demand.{goodRounds}
-use Rattle.upload.specs.Legal.{Place, begun, asked, arrived, repeated}
+use Rattle.round_rules.specs.declared.State.{State}
+use Rattle.round_rules.specs.declared.State.the-variants.{Running, Finished, GivenUp}
+use Rattle.round_rules.specs.Legal.{Place, begun, asked, arrived, repeated, between}
 use Rattle.upload.specs.Stored.{Mark, waiting, taken, stored}
-use Rattle.upload.specs.World.{World}
-use Rattle.upload.proofs.Counting.{NoneGood}
-use Rattle.upload.proofs.Exchange.{Addressed, requestRead}
-use Rattle.device_rules.proofs.Faults.{unitAt}
+use Rattle.round_rules.specs.World.{World}
+use Rattle.round_rules.proofs.Counting.{NoneGood, Course}
+use Rattle.link.proofs.RoundTrip.{Underway}
+use Rattle.upload.proofs.Exchange.{Addressed, requestAt}
+use Rattle.device_rules.specs.Device.{withTransfer}
+use Rattle.device_rules.proofs.Faults.{transferAt}
 use Rattle.upload.proofs.Situations.{senderAt}
+use Rattle.round_rules.proofs.Steady.{Either}
 
--- What stays the same all along: the file, the store as the setup left it, the link and the addresses.
+-- What stays the same all along: the file, the store as the setup left it, the sender's addresses, and of the unit all but its transfer.
 pub record Upload : Type 0 where
   pub file : List ℕ
   pub start : List ℕ
-  pub link : Link
+  pub unit : Device
   pub source : ℕ
   pub destination : ℕ
-  pub own : ℕ
-  pub addressed : Addressed link source destination own
+  pub addressed : Addressed (unit .link) source destination (unit .own)
   pub legal : sizeLegal (length file) ≡ true
   pub room : length file ≤ length start
 
@@ -68,15 +68,7 @@ Stands Confirm free f i = i ≡ f + 1
 Stands Confirm loaded f i = ⊥
 Stands Confirm pending f i = i ≡ f
 
--- Steps forward in a frame so far.
-abbrev pub steps : Stage → ℕ
-steps Frame = 0
-steps Back = 1
-steps Compare = 1
-steps Take = 2
-steps Confirm = 3
-
-pub few-steps : (stage : Stage) → steps stage ≤ 3
+pub few-steps : (stage : Stage) → stageSteps stage ≤ 3
 few-steps Frame = omega arith
 few-steps Back = omega arith
 few-steps Compare = omega arith
@@ -129,29 +121,36 @@ module _ (u : Upload) where
   Holding loaded i content = (i < frames) × (content ≡ fileFrame (u .file) i)
   Holding pending i content = (i < frames) × (content ≡ fileFrame (u .file) i)
 
+  -- The transfer is pinned, and the rest of the unit is as it was.
+  abbrev pub unitAt : ℕ → List ℕ → ℕ → Bool → Device
+  unitAt i buffer buffered p = withTransfer (u .unit) (transferAt (length (u .file)) i buffer buffered p)
+
   -- The unit has stored i frames, and the calls so far count so many.
   pub record UnitAt (i : ℕ) (b : Buffer) (d : Device) (store : List ℕ) (marks : ℕ → Mark) : Type 0 where
     pub buffer : List ℕ
     pub buffered : ℕ
-    pub device : d ≡ unitAt (u .link) (u .own) (length (u .file)) i buffer buffered (isPending b)
+    pub device : d ≡ unitAt i buffer buffered (isPending b)
     pub holding : Holding b i (take buffered buffer)
     pub stores : store ≡ take (256 * i) (u .file) ++ drop (min (256 * i) (length (u .file))) (u .start)
     pub marked : (j : ℕ) → marks j ≡ markOf i b j
 
   abbrev pub sender : ℕ → Stage → ℕ → ℕ → State → Sender
-  sender f stage since rounds state = senderAt (u .link) (u .source) (u .destination) (length (u .file)) f stage since rounds state
+  sender f stage since rounds state = senderAt (u .unit .link) (u .source) (u .destination) (length (u .file)) f stage since rounds state
 
-  -- The request that is under way, as the unit reads it.
-  abbrev pub Asked : World → Stage → ℕ → Type 0
-  Asked w stage f = linkRead (u .link) (w .request) ≡ given (requestRead (u .link) (u .source) (u .destination) stage) (requestPayload stage (u .file) f)
+  -- The request that is under way.
+  abbrev pub Asked : World Sender → Stage → ℕ → Type 0
+  Asked w stage f = Underway (u .unit .link) (requestAt (u .source) (u .destination) stage) (requestPayload stage (u .file) f) (w .request)
 
-  -- The answer that is under way, as the sender takes it.
-  pub record Answered (w : World) (d : Bool) (stage : Stage) (b : Buffer) : Type 0 where
+  -- The answer that is under way, and what it means to the sender.
+  pub record Answered (w : World Sender) (d : Bool) (stage : Stage) (b : Buffer) : Type 0 where
+    pub answer : Message
+    pub payload : List ℕ
+    pub underway : Underway (u .unit .link) answer payload (w .answer)
     pub meant : Meaning
-    pub means : meaning (w .sender) (u .file) (linkRead (u .link) (w .answer)) ≡ meant
+    pub means : meaning (w .requester) (u .file) (linkRead (u .unit .link) (w .answer)) ≡ meant
     pub leads : Leads meant d stage b
 
-  abbrev pub AtPlace : Place → World → Stage → Buffer → ℕ → Type 0
+  abbrev pub AtPlace : Place → World Sender → Stage → Buffer → ℕ → Type 0
   AtPlace (begun d) w stage b f = Quiet d stage b
   AtPlace (asked d) w stage b f = Quiet d stage b × Asked w stage f
   AtPlace (arrived d) w stage b f = Quiet d stage b × Asked w stage f × Answered w d stage b
@@ -166,38 +165,33 @@ module _ (u : Upload) where
     pub unit : UnitAt stored buffer d store marks
     pub stands : Stands stage buffer frame stored
 
-  -- What the rounds so far have come to, at a stage of a frame.
-  pub record Course (frame : ℕ) (stage : Stage) (since : ℕ) (past : List Bool) : Type 0 where
-    pub below : frame < frames
-    pub few : since < 50
-    pub noneGood : NoneGood past since
-    pub rounds : length past ≤ 50 * (4 * frame + steps stage) + since
-    pub good : goodRounds past ≤ 4 * frame + steps stage
-
   -- The whole invariant of a list so far, with its rounds and marks: the sender runs,
-  pub record Running· (p : Place) (w : World) (past : List Bool) (marks : ℕ → Mark) : Type 0 where
+  pub record Running· (w : World Sender) (past : List Bool) (marks : ℕ → Mark) (p : Place) : Type 0 where
     pub row : Row (w .device) (w .store) marks
     pub since : ℕ
-    pub sends : w .sender ≡ sender (row .frame) (row .stage) since (length past) Running
+    pub sends : w .requester ≡ sender (row .frame) (row .stage) since (length past) Running
     pub place : AtPlace p w (row .stage) (row .buffer) (row .frame)
-    pub course : Course (row .frame) (row .stage) since past
+    pub below : row .frame < frames
+    pub course : Course (4 * row .frame + stageSteps (row .stage)) since past
 
   -- has given up,
-  pub record GivenUp· (w : World) (past : List Bool) (marks : ℕ → Mark) : Type 0 where
-    pub row : Row (w .device) (w .store) marks
+  pub record GivenUp· (d : Device) (store : List ℕ) (s : Sender) (past : List Bool) (marks : ℕ → Mark) : Type 0 where
+    pub row : Row d store marks
     pub since : ℕ
-    pub sends : w .sender ≡ sender (row .frame) (row .stage) since (length past) GivenUp
+    pub sends : s ≡ sender (row .frame) (row .stage) since (length past) GivenUp
     pub noneGood : NoneGood past 50
 
   -- or has finished.
-  pub record Finished· (w : World) (past : List Bool) (marks : ℕ → Mark) : Type 0 where
+  pub record Finished· (d : Device) (store : List ℕ) (s : Sender) (past : List Bool) (marks : ℕ → Mark) : Type 0 where
     pub frame : ℕ
     pub since : ℕ
-    pub unit : UnitAt frames free (w .device) (w .store) marks
-    pub sends : w .sender ≡ sender frame Confirm since (length past) Finished
+    pub unit : UnitAt frames free d store marks
+    pub sends : s ≡ sender frame Confirm since (length past) Finished
     pub last : frame + 1 ≡ frames
 
-  pub data Invariant (w : World) (past : List Bool) (marks : ℕ → Mark) : Place → Type 0 where
-    runs : {p : Place} → Running· p w past marks → Invariant w past marks p
-    gaveUp : GivenUp· w past marks → Invariant w past marks (begun false)
-    done : Finished· w past marks → Invariant w past marks (begun false)
+  pub data Ended (d : Device) (store : List ℕ) (s : Sender) (past : List Bool) (marks : ℕ → Mark) : Type 0 where
+    gaveUp : GivenUp· d store s past marks → Ended d store s past marks
+    done : Finished· d store s past marks → Ended d store s past marks
+
+  abbrev pub Outcome : World Sender → List Bool → (ℕ → Mark) → Type 0
+  Outcome w past marks = Either (Running· w past marks) (Ended (w .device) (w .store) (w .requester) past marks) between

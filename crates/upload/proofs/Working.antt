@@ -10,16 +10,15 @@ use lib.Dec.{ltb, eqb}
 use lib.ListN.{length, take, take-append-drop}
 use Rattle.message.specs.Answer.{given, require, after}
 use Rattle.file.specs.File.{fileFrame}
-use Rattle.device_rules.specs.Device.{frame}
+use Rattle.device_rules.specs.Device.{frame, emptyBuffer}
 use Rattle.device_rules.specs.declared.Device.{Device}
 use Rattle.device_rules.specs.Work.{frameStored, hasRoom, work, storeAfter, afterWork}
 use Rattle.upload.specs.declared.Stage.{Stage}
 use Rattle.upload.specs.declared.Stage.the-variants.{Frame, Back, Compare, Take, Confirm}
 use Rattle.upload.specs.Stored.{Mark, markWorked}
-use Rattle.upload.specs.World.{answerCheck, isFailed}
+use Rattle.round_rules.specs.World.{answerCheck, isFailed}
 use Rattle.upload.proofs.Files.{stored-next, size-reached, beginning-length, store-next}
-use Rattle.device_rules.proofs.Faults.{unitAt}
-use Rattle.upload.proofs.Table.{Upload, Buffer, free, loaded, pending, isPending, Stands, Quiet, markOf, frames, UnitAt}
+use Rattle.upload.proofs.Table.{Upload, Buffer, free, loaded, pending, isPending, Stands, Quiet, markOf, frames, unitAt, UnitAt}
 
 -- How many frames are stored after a work step, and the buffer then.
 abbrev pub workedCount : Buffer → ℕ → ℕ
@@ -74,12 +73,9 @@ worked-mark i pending j = by (ltb j i) refl (eqb j i) refl
     by false e false f = rw (e, f, le-ltb j (i + 1) (omega (arith, ltb-false j i e, eqb-false j i f)))
 
 module _ (u : Upload) where
-  abbrev unit : ℕ → List ℕ → ℕ → Bool → Device
-  unit i buffer buffered p = unitAt (u .link) (u .own) (length (u .file)) i buffer buffered p
-
   -- The work step of a unit with frame i pending.
   work-stores : (i : ℕ) (buffer : List ℕ) (buffered store : ℕ) → i < frames u → take buffered buffer ≡ fileFrame (u .file) i → length (u .file) ≤ store
-      → work (unit i buffer buffered true) store ≡ given (unit (i + 1) buffer 0 false) (fileFrame (u .file) i)
+      → work (unitAt u i buffer buffered true) store ≡ given (unitAt u (i + 1) emptyBuffer 0 false) (fileFrame (u .file) i)
   unfolding work hasRoom frameStored frame require after
   work-stores i buffer buffered store h content room =
       let next : ((i + 65535) % 65536 + 1) % 65536 ≡ (i + 1 + 65535) % 65536 = omega arith in
@@ -111,7 +107,7 @@ module _ (u : Upload) where
       let does = work-stores i (h .buffer) (h .buffered) (length store) (h .holding .0) (h .holding .1) long in
       rw (h .device, does)
       (record {
-        buffer = h .buffer;
+        buffer = emptyBuffer;
         buffered = 0;
         device = refl;
         holding = omega (arith, h .holding .0);

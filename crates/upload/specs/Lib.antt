@@ -1,7 +1,5 @@
 pub mod Sender
 pub mod Round
-pub mod World
-pub mod Legal
+pub mod Sending
 pub mod Stored
 pub mod Demand
-pub mod Schedule

@@ -1,5 +1,5 @@
 -- What an answer means to the sender, and what a round does to it (document 01, "The sender and its rounds").
-use Prim.Native.Nat.{ℕ, _+_, _/_, _%_}
+use Prim.Native.Nat.{ℕ, _+_, _*_, _/_, _%_, min}
 use mathlib.Core.Bool.{Bool, true, false, cond, not, _&&_, _||_}
 use mathlib.Core.List.{List}
 use lib.Dec.{ltb, eqb}
@@ -14,14 +14,15 @@ use Rattle.little_endian.specs.LittleEndian.{fromBytes}
 use Rattle.checksum.specs.Checksum.{checksum}
 use Rattle.file.specs.File.{frameCount, fileFrame}
 use Rattle.link.specs.Link.{linkRead, carriesAddresses}
-use Rattle.upload.specs.Sender.{requestId, isRunning, sameFile}
+use Rattle.upload.specs.Sender.{requestId, sameFile}
+use Rattle.round_rules.specs.Requester.{isRunning}
 use Rattle.upload.specs.declared.Meaning.{Meaning}
 use Rattle.upload.specs.declared.Meaning.the-variants.{Stay, Forward, Differs, Flagged}
 use Rattle.upload.specs.declared.Sender.{Sender}
 use Rattle.upload.specs.declared.Stage.{Stage}
 use Rattle.upload.specs.declared.Stage.the-variants.{Frame, Back, Compare, Take, Confirm}
-use Rattle.upload.specs.declared.State.{State}
-use Rattle.upload.specs.declared.State.the-variants.{Running, Finished, GivenUp}
+use Rattle.round_rules.specs.declared.State.{State}
+use Rattle.round_rules.specs.declared.State.the-variants.{Running, Finished, GivenUp}
 
 -- "An answer fits only with the request's ID and, where the link carries addresses, the request's source as destination and its destination
 -- as source."
@@ -121,6 +122,23 @@ isStep Compare = true
 isStep Take = true
 isStep Confirm = true
 
+-- The steps forward in a frame before each stage of it. A again comes behind B.
+abbrev pub stageSteps : Stage → ℕ
+stageSteps Frame = 0
+stageSteps Back = 1
+stageSteps Compare = 1
+stageSteps Take = 2
+stageSteps Confirm = 3
+
+abbrev pub finishSteps : State → ℕ
+finishSteps Running = 0
+finishSteps Finished = 1
+finishSteps GivenUp = 0
+
+-- All steps forward so far: four a frame, and the finish is one.
+unfoldable pub steps : Sender → ℕ
+steps s = 4 * s .frame + stageSteps (s .stage) + finishSteps (s .state)
+
 -- A sender with these in place of its own, and one round more: "rounds used (all it had)". An upload has at most 200 * 65,535, which 32 bits hold.
 abbrev pub changed : Sender → ℕ → Stage → ℕ → State → Sender
 changed s frame stage since state =
@@ -140,12 +158,13 @@ changed s frame stage since state =
 abbrev pub mostWaits : ℕ
 mostWaits = 50
 
+-- The rounds since the last step forward, with this one: fifty at most. The round in which it gives up counts too.
+unfoldable pub oneMore : Sender → ℕ
+oneMore s = min (s .since + 1) mostWaits
+
 -- A round without a step forward.
 unfoldable pub waited : Sender → Stage → Sender
-waited s stage =
-    cond (ltb (s .since + 1) mostWaits)
-    (changed s (s .frame) stage (s .since + 1) Running)
-    (changed s (s .frame) stage (s .since) GivenUp)
+waited s stage = changed s (s .frame) stage (oneMore s) (cond (ltb (s .since + 1) mostWaits) Running GivenUp)
 
 -- The file has a frame behind this one.
 unfoldable pub hasNext : Sender → Bool
@@ -165,7 +184,7 @@ unfoldable pub roundOver : Sender → Meaning → Sender
 roundOver s Stay = waited s (s .stage)
 roundOver s Forward = cond (isStep (s .stage)) (advanced s) (waited s (nextStage (s .stage)))
 roundOver s Differs = waited s Back
-roundOver s Flagged = changed s (s .frame) (s .stage) (s .since) GivenUp
+roundOver s Flagged = changed s (s .frame) (s .stage) (oneMore s) GivenUp
 
 -- A sender that has ended stays as it is, whatever it is handed.
 unfoldable pub hear : Sender → List ℕ → List ℕ → Answer Sender Unit

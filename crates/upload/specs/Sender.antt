@@ -1,6 +1,6 @@
 -- The sender's state, how it starts and what it asks (document 01, "The sender and its rounds").
 use Prim.Native.Nat.{ℕ, _+_}
-use mathlib.Core.Bool.{Bool, true, false, cond, _&&_}
+use mathlib.Core.Bool.{Bool, true, cond, _&&_}
 use mathlib.Core.List.{List, []}
 use lib.Dec.{ltb, eqb}
 use lib.ListN.{length}
@@ -21,8 +21,9 @@ use Rattle.upload.specs.declared.Stage.{Stage}
 use Rattle.upload.specs.declared.Stage.the-variants.{Frame, Back, Compare, Take, Confirm}
 use Rattle.upload.specs.declared.SenderAnswer.{SenderAnswer}
 use Rattle.upload.specs.declared.SenderAnswer.the-variants as SenderAnswer·of
-use Rattle.upload.specs.declared.State.{State}
-use Rattle.upload.specs.declared.State.the-variants.{Running, Finished, GivenUp}
+use Rattle.round_rules.specs.Requester.{isRunning, Sent, sent, nothing}
+use Rattle.round_rules.specs.declared.State.{State}
+use Rattle.round_rules.specs.declared.State.the-variants.{Running, Finished, GivenUp}
 
 -- A sender at first: stage A of frame 0, no rounds.
 unfoldable pub newSender : Link → ℕ → ℕ → ℕ → Sender
@@ -89,20 +90,11 @@ requestMessage s =
       index = 0;
     }
 
-abbrev pub isRunning : State → Bool
-isRunning Running = true
-isRunning Finished = false
-isRunning GivenUp = false
-
--- A request, or nothing: "finished or given up, it sends nothing more".
-pub data Sent : Type 0 where
-  sent : Sent
-  nothing : Sent
-
 -- 11: "a sender that hasn't ended [..] if the file's length has changed". The 8 comes with the lent output, "11 (before 8)".
 unfoldable pub sameFile : Sender → List ℕ → Check
 sameFile s file = require (eqb (length file) (s .length)) 11 passed
 
+-- The request of its stage, or nothing: "finished or given up, it sends nothing more".
 unfoldable pub request : Sender → List ℕ → Answer Sent (List ℕ)
 request s file =
     cond (isRunning (s .state))

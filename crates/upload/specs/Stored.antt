@@ -10,7 +10,8 @@ use Rattle.message.specs.Kinds.{typeNumber}
 use Rattle.message.specs.declared.Message.{Message}
 use Rattle.little_endian.specs.LittleEndian.{fromBytes}
 use Rattle.link.specs.Link.{linkRead}
-use Rattle.upload.specs.World.{World, Call, works, asks, arrives, hears, does, isRefused}
+use Rattle.round_rules.specs.World.{World, Call, works, asks, arrives, hears, makes, starts, does, isRefused}
+use Rattle.round_rules.specs.Requester.{Requester}
 
 -- What the calls so far mean for a frame: nothing, its take frame has arrived, or it has and had a work step after it.
 pub data Mark : Type 0 where
@@ -34,16 +35,18 @@ markWorked waiting = waiting
 markWorked taken = stored
 markWorked stored = stored
 
-unfoldable pub markCall : ℕ → World → Call → Mark → Mark
+unfoldable pub markCall : {S : Type 0} → ℕ → World S → Call → Mark → Mark
 markCall i w (works l) m = markWorked m
 markCall i w (asks l out) m = m
 markCall i w (arrives b l out) m = markTaken (isTake i (linkRead (w .device .link) b)) m
 markCall i w (hears l b) m = m
+markCall i w (makes l own) m = m
+markCall i w (starts s) m = m
 
 -- A refused call counts for nothing.
-unfoldable pub markAfter : List ℕ → World → List Call → ℕ → Mark → Mark
-markAfter file w [] i m = m
-markAfter file w (c ∷ h) i m = markAfter file (does file w c) h i (cond (isRefused file w c) m (markCall i w c m))
+unfoldable pub markAfter : {S : Type 0} → Requester S → World S → List Call → ℕ → Mark → Mark
+markAfter a w [] i m = m
+markAfter a w (c ∷ h) i m = markAfter a (does a w c) h i (cond (isRefused a w c) m (markCall i w c m))
 
 unfoldable pub isStored : Mark → Bool
 isStored waiting = false
@@ -56,5 +59,5 @@ countStored f zero = 0
 countStored f (suc n) = cond (isStored (f n)) 1 0 + countStored f n
 
 -- k: of the file's frames, so many.
-unfoldable pub framesStored : List ℕ → World → List Call → ℕ → ℕ
-framesStored file w h frames = countStored (λ i. markAfter file w h i waiting) frames
+unfoldable pub framesStored : {S : Type 0} → Requester S → World S → List Call → ℕ → ℕ
+framesStored a w h frames = countStored (λ i. markAfter a w h i waiting) frames

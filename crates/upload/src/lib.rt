@@ -2,10 +2,11 @@
 // takes it and gives the next one.
 //
 // The rules are definitions of `specs/`: `Sender` (the state, starting, the request of each stage), `Round` (what an answer means, and what
-// a round does to the state), `World`, `Legal` and `Stored` (calls, the lists of calls that are allowed, the frames that they store),
-// `Schedule` (every sequence of rounds as such a list) and `Demand` (demand 3 as one statement). `proofs/` has its proof.
+// a round does to the state), `Sending` (the sender as the side that asks), `Stored` (the frames that calls store) and `Demand` (demand 3 as
+// one statement). `proofs/` has its proof. Calls, rounds and the lists of them stand in `round_rules`.
 use link::Link;
 use message::Refusal;
+use round_rules::State;
 
 // The four stages of a frame, with document 01's letter for each. `Back` is A after a frame info at B that differed: the next
 // arrival at B is then no step forward.
@@ -22,13 +23,6 @@ pub enum Stage {
     Confirm,
 }
 
-// Document 01's "finished or given up"; until then it runs.
-pub enum State {
-    Running,
-    Finished,
-    GivenUp,
-}
-
 pub struct Sender {
     pub link: Link,
     // The addresses that its requests carry.
@@ -39,25 +33,10 @@ pub struct Sender {
     // The frame that it is at, from 0, and the stage of it.
     pub frame: u32,
     pub stage: Stage,
-    // While it runs, the rounds since the last step forward; and all rounds.
+    // The rounds since the last step forward, the one in which it gave up too; and all rounds.
     pub since: u8,
     pub rounds: u32,
     pub state: State,
-}
-
-// What becomes of a round's exchange: the answer is delivered, or the request is lost, or its answer, or the request arrives twice and the
-// second answer is delivered.
-pub enum Fate {
-    Delivered,
-    RequestLost,
-    AnswerLost,
-    Twice,
-}
-
-// A round: the unit's work step, done or not, then one exchange.
-pub struct Round {
-    pub worked: bool,
-    pub fate: Fate,
 }
 
 // What an answer means to the sender at its stage.

@@ -1,4 +1,4 @@
--- How a line splits into words. Quotes are of the page of `replay`, "A script", which this repository does not hold.
+-- How a line splits into words. Quotes are of docs/REPLAY.md, "A script".
 use Prim.Native.Nat.{ℕ}
 use mathlib.Core.Bool.{cond}
 use mathlib.Core.List.{List, [], _∷_}

@@ -8,6 +8,7 @@ ghost use Rattle.device_rules.specs.Device.{frame, unitTold};
 ghost use Rattle.device_rules.specs.Work.{frameStored, hasRoom, work, worked, afterWork, storeAfter};
 use device_rules::Device;
 use device_rules::Phase;
+use device_rules::Transfer;
 use device_rules::UnitAnswer;
 use message::Refusal;
 use message::Verdict;
@@ -18,67 +19,67 @@ pub fn work(device: Device, store: &mut [u8]) -> UnitAnswer
     ensures { λ r. ⌜ r .device ≡ afterWork device (work device (length (now (store .entry)))) ⌝ }
     ensures { λ _. ⌜ now (store .exit) ≡ storeAfter device (work device (length (now (store .entry)))) (now (store .entry)) ⌝ }
 {
-    if !device.pending {
+    let transfer = device.transfer;
+    if !transfer.pending {
         return UnitAnswer {
             device,
             verdict: Verdict::Passed,
         };
     }
-    if !has_room(device, store.len()) {
+    if !has_room(transfer, store.len()) {
         return UnitAnswer {
             device,
             verdict: Verdict::Refused(Refusal::OutputTooShort),
         };
     }
-    let at = device.stored as usize;
-    let length = device_state::frame_length(device);
-    let buffer = device.buffer;
+    let at = transfer.stored as usize;
+    let length = device_state::frame_length(transfer);
+    let buffer = transfer.buffer;
     // There is room, so nothing is refused here.
     output::lay(&buffer[..length], &mut store[at..]);
+    let after = frame_stored(transfer);
+    let mut next = device;
+    next.transfer = after;
     UnitAnswer {
-        device: frame_stored(device),
+        device: next,
         verdict: Verdict::Passed,
     }
 }
 
 // The store holds the whole file, and the frame does not end past it.
-fn has_room(device: Device, store: usize) -> bool
-    ensures { λ r. ⌜ r ≡ hasRoom device store ⌝ }
+fn has_room(transfer: Transfer, store: usize) -> bool
+    ensures { λ r. ⌜ r ≡ hasRoom transfer store ⌝ }
 {
-    let size = device.size as usize;
+    let size = transfer.size as usize;
     if store < size {
         return false;
     }
-    device.stored as usize + device_state::frame_length(device) <= size
+    transfer.stored as usize + device_state::frame_length(transfer) <= size
 }
 
-// The unit once its pending frame is stored.
-fn frame_stored(device: Device) -> Device
-    requires { ⌜ device .stored + length (frame device) ≤ device .size ⌝ }
-    ensures { λ r. ⌜ r ≡ frameStored device ⌝ }
+// The transfer once its pending frame is stored.
+fn frame_stored(transfer: Transfer) -> Transfer
+    requires { ⌜ transfer .stored + length (frame transfer) ≤ transfer .size ⌝ }
+    ensures { λ r. ⌜ r ≡ frameStored transfer ⌝ }
 {
-    let link = device.link;
-    let buffer = device.buffer;
-    let stored = device.stored + device_state::frame_length(device) as u32;
-    Device {
-        link,
-        own: device.own,
-        phase: phase_after(device, stored),
-        number: std::num::wrapping_add_u16(device.number, 1),
-        buffer,
+    let stored = transfer.stored + device_state::frame_length(transfer) as u32;
+    Transfer {
+        phase: phase_after(transfer, stored),
+        number: std::num::wrapping_add_u16(transfer.number, 1),
+        buffer: [0u8; 256],
         buffered: 0,
         pending: false,
-        size: device.size,
+        size: transfer.size,
         stored,
     }
 }
 
 // "Finishes when the size is reached."
-fn phase_after(device: Device, stored: u32) -> Phase
-    ensures { λ r. ⌜ r ≡ cond (eqb stored (device .size)) Phase.Finished (device .phase) ⌝ }
+fn phase_after(transfer: Transfer, stored: u32) -> Phase
+    ensures { λ r. ⌜ r ≡ cond (eqb stored (transfer .size)) Phase.Finished (transfer .phase) ⌝ }
 {
-    if stored == device.size {
+    if stored == transfer.size {
         return Phase::Finished;
     }
-    device.phase
+    transfer.phase
 }

@@ -26,9 +26,7 @@ returns c =
 
 returns-2 : tie.Need-returns-2
 unfolding afterCommand
-returns-2 c =
-    let fault = c .before .before .command-fault .ensures in
-    (fault, rw (sym fault ∙ c .enum-told2 .given .1))
+returns-2 c = (search needs, cc)
 
 pub carry-out-spec : {M : Type 1} → statement M
 carry-out-spec =

@@ -1,74 +1,15 @@
--- Carried by the ID.
-use mathlib.Core.Path.{_∙_, ap}
-use native.Mathlib.Omega.{arith}
-use borrow.Author.Tests.{ne-eqb}
-use denote.Ref.{now}
-use Rattle.little_endian.specs.LittleEndian.{fromBytes}
-use Rattle.device_rules.specs.Commands.{setupDone, commandDone}
-use Rattle.device_rules.proofs.Payloads.{four-bytes}
+-- Carried by the transfer: the other fields stay.
+use Rattle.device_rules.specs.Commands.{commandDone}
 use borrow.Author.Needs.{needs}
 use Rattle.commands.proofs.command_done.Statement.{statement}
 use Rattle.commands.proofs.command_done.Tie as tie
 
-shared-slice-read-u32-from-bytes : tie.Need-shared-slice-read-u32-from-bytes
-shared-slice-read-u32-from-bytes c = omega (arith, c .before .before .before .pre .0 (c .before .match .keys1))
-
-shared-slice-read-u32-from-bytes-2 : tie.Need-shared-slice-read-u32-from-bytes-2
-shared-slice-read-u32-from-bytes-2 c = omega (arith, c .before .before .before .before .pre .0 (c .before .before .match .keys1))
-
-shared-slice-read-u32-from-bytes-3 : tie.Need-shared-slice-read-u32-from-bytes-3
-shared-slice-read-u32-from-bytes-3 c = omega (arith, c .before .before .before .before .before .pre .0 (c .before .before .before .match .keys1))
-
-shared-slice-read-u32-from-bytes-4 : tie.Need-shared-slice-read-u32-from-bytes-4
-shared-slice-read-u32-from-bytes-4 c = omega (arith, c .before .before .before .before .before .before .pre .0 (c .before .before .before .before .match .keys1))
-
-u32-from-bytes-requires : tie.Need-u32-from-bytes-requires
-u32-from-bytes-requires c κs = search needs
-
-setup-done-requires : tie.Need-setup-done-requires
-setup-done-requires c κs = search needs
-
-take-done-requires : tie.Need-take-done-requires
-take-done-requires c κs = search needs
-
-frame-done-requires : tie.Need-frame-done-requires
-frame-done-requires c κs = c .before .before .pre .1 (c .match .keys3)
-
-cancel-done-requires : tie.Need-cancel-done-requires
-cancel-done-requires c κs = search needs
+transfer-done-requires : tie.Need-transfer-done-requires
+transfer-done-requires c κs = search needs
 
 returns : tie.Need-returns
-unfolding commandDone setupDone
-returns c =
-    let size = c .before .u32-from-bytes .ensures ∙ ap fromBytes (four-bytes (now (c .before .before .before .before .before .before .before .before .args .payload)) (c .before .before .before .before .before .before .before .before .pre .0 (c .before .before .before .before .before .before .match .keys1))) in
-    rw (c .before .before .before .before .before .before .match .keys1, ← size) (c .setup-done .ensures)
-
-returns-2 : tie.Need-returns-2
 unfolding commandDone
-returns-2 c = rw (c .before .match .keys2) (c .take-done .ensures)
-
-returns-3 : tie.Need-returns-3
-unfolding commandDone
-returns-3 c = rw (c .before .match .keys3) (c .frame-done .ensures)
-
-returns-4 : tie.Need-returns-4
-unfolding commandDone
-returns-4 c = rw (ne-eqb _ _ (c .before .match .rest .0 .0 .1), ne-eqb _ _ (c .before .match .rest .0 .1), ne-eqb _ _ (c .before .match .rest .1)) (c .cancel-done .ensures)
+returns c = rw (c .transfer-done .ensures)
 
 pub command-done-spec : {M : Type 1} → statement M
-command-done-spec =
-    tie.close
-    (tie.spec
-    shared-slice-read-u32-from-bytes
-    shared-slice-read-u32-from-bytes-2
-    shared-slice-read-u32-from-bytes-3
-    shared-slice-read-u32-from-bytes-4
-    u32-from-bytes-requires
-    setup-done-requires
-    take-done-requires
-    frame-done-requires
-    cancel-done-requires
-    returns
-    returns-2
-    returns-3
-    returns-4)
+command-done-spec = tie.close (tie.spec transfer-done-requires returns)

@@ -12,11 +12,11 @@ cast-buffered c = search needs
 
 returns : tie.Need-returns
 unfolding frame
-returns c = rw length-take (omega (arith, buffer-length (c .before .before .args .device) (c .before .before .good .0)))
+returns c = rw length-take (omega (arith, buffer-length (c .before .before .args .transfer) (c .before .before .good .0)))
 
 returns-2 : tie.Need-returns-2
 unfolding frame
-returns-2 c = rw length-take (omega (arith, buffer-length (c .before .before .args .device) (c .before .before .good .0)))
+returns-2 c = rw length-take (omega (arith, buffer-length (c .before .before .args .transfer) (c .before .before .good .0)))
 
 pub frame-length-spec : {M : Type 1} → statement M
 frame-length-spec = tie.close (tie.spec cast-buffered returns returns-2)

@@ -1,7 +1,7 @@
 -- Carried by the work step, done or not, in front of the request.
 use borrow.Author.Needs.{needs}
 use borrow.Author.Tests.{not-true, not-false}
-use Rattle.runs.specs.Rounds.{roundMade, roundRefusal}
+use Rattle.round_rules.specs.Rounds.{roundMade, roundRefusal}
 use Rattle.rounds.proofs.Made.{worked-ends, worked-stopped, round-rest, round-work}
 use Rattle.rounds.proofs.Told.{stepped, not-stepped}
 use Rattle.rounds.proofs.round.Statement.{statement}

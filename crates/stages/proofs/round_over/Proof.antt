@@ -25,8 +25,8 @@ waited-requires-2 c κs = search needs
 enum-told-4 : tie.Need-enum-told-4
 enum-told-4 c = search needs
 
-changed-requires : tie.Need-changed-requires
-changed-requires c κs = search needs
+flagged-requires : tie.Need-flagged-requires
+flagged-requires c κs = search needs
 
 returns : tie.Need-returns
 unfolding roundOver
@@ -42,7 +42,7 @@ returns-3 c = rw (c .before .enum-told3 .given .1) (c .waited2 .ensures)
 
 returns-4 : tie.Need-returns-4
 unfolding roundOver
-returns-4 c = rw (c .before .enum-told4 .given .1) (c .changed .ensures)
+returns-4 c = rw (c .before .enum-told4 .given .1) (c .flagged .ensures)
 
 pub round-over-spec : {M : Type 1} → statement M
 round-over-spec =
@@ -55,7 +55,7 @@ round-over-spec =
     enum-told-3
     waited-requires-2
     enum-told-4
-    changed-requires
+    flagged-requires
     returns
     returns-2
     returns-3

@@ -21,7 +21,7 @@ frame-length-requires : tie.Need-frame-length-requires
 frame-length-requires c κs = search needs
 
 add-result : tie.Need-add-result
-add-result c = omega (arith, c .frame-length .ensures, frame-most (c .before .before .before .before .args .device) (c .before .before .before .before .good .0), c .before .struct-known2 .given)
+add-result c = omega (arith, c .frame-length .ensures, frame-most (c .before .before .before .before .args .transfer) (c .before .before .before .before .good .0), c .before .struct-known2 .given)
 
 returns-2 : tie.Need-returns-2
 unfolding hasRoom

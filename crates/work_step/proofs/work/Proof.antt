@@ -1,6 +1,7 @@
 -- Carried by the laws of the work step: nothing pending, no room, or the frame laid behind what is stored.
-use Prim.Native.Nat.{_≤_}
+use Prim.Native.Nat.{ℕ, _≤_}
 use mathlib.Core.Bool.{true}
+use mathlib.Core.List.{List}
 use mathlib.Core.Path.{_≡_, sym, _∙_}
 use native.Mathlib.Omega.{arith}
 use borrow.Author.Tests.{not-true, not-false}
@@ -9,11 +10,19 @@ use lib.ListN.{length}
 use lib.Seq.{length-take-le}
 use Rattle.message.proofs.Parts.{part-from, put-from}
 use Rattle.device_rules.specs.Work.{hasRoom}
-use Rattle.device_rules.proofs.Buffers.{buffer-length, frame-most, frame-of-buffer}
+use Rattle.device_rules.specs.declared.Device.{Device}
+use Rattle.device_rules.proofs.Buffers.{frame-within, frame-of-buffer}
 use Rattle.device_rules.proofs.Works.{idle-gives, short-gives, room, stored-gives}
 use borrow.Author.Needs.{needs}
 use Rattle.work_step.proofs.work.Statement.{statement}
 use Rattle.work_step.proofs.work.Tie as tie
+
+-- The unit and the store, as they came.
+abbrev unit : tie.Else2 → Device
+unit c = c .before .before .before .before .before .before .args .device
+
+abbrev lent : tie.Else2 → List ℕ
+lent c = now (c .before .before .before .before .before .before .args .store)
 
 returns : tie.Need-returns
 returns c = idle-gives _ _ (not-true _ (c .if1 .taken))
@@ -25,11 +34,11 @@ returns-2 : tie.Need-returns-2
 returns-2 c = short-gives _ _ (not-false _ (c .before .before .if1 .left)) (sym (c .before .has-room .ensures) ∙ not-true _ (c .if2 .taken))
 
 -- What the test of the room leaves.
-roomy : (c : tie.Else2) → hasRoom (c .before .before .before .before .before .args .device) (length (now (c .before .before .before .before .before .args .store))) ≡ true
+roomy : (c : tie.Else2) → hasRoom (unit c .transfer) (length (lent c)) ≡ true
 roomy c = sym (c .before .has-room .ensures) ∙ not-false _ (c .if2 .left)
 
-starts : (c : tie.Else2) → c .before .before .before .before .before .args .device .stored ≤ length (now (c .before .before .before .before .before .args .store))
-starts c = omega (arith, room (c .before .before .before .before .before .args .device) (now (c .before .before .before .before .before .args .store)) (roomy c))
+starts : (c : tie.Else2) → unit c .transfer .stored ≤ length (lent c)
+starts c = omega (arith, room (unit c) (lent c) (roomy c))
 
 cast-at : tie.Need-cast-at
 cast-at c = search needs
@@ -38,7 +47,7 @@ frame-length-requires : tie.Need-frame-length-requires
 frame-length-requires c κs = search needs
 
 array-share-prefix-buffer : tie.Need-array-share-prefix-buffer
-array-share-prefix-buffer c = omega (arith, c .before .frame-length .ensures, frame-most (c .before .before .before .before .before .before .before .before .args .device) (c .before .before .before .before .before .before .before .before .good .0), buffer-length (c .before .before .before .before .before .before .before .before .args .device) (c .before .before .before .before .before .before .before .before .good .0))
+array-share-prefix-buffer c = rw (c .before .frame-length .ensures) (frame-within _)
 
 slice-aggregate-lay : tie.Need-slice-aggregate-lay
 slice-aggregate-lay c = sym (length-take-le _ _ (array-share-prefix-buffer (c .before)))
@@ -56,16 +65,18 @@ lay-requires : tie.Need-lay-requires
 lay-requires c κs = search needs
 
 frame-stored-requires : tie.Need-frame-stored-requires
-frame-stored-requires c κs = room (c .before .before .before .before .before .before .before .before .before .before .before .before .before .args .device) (now (c .before .before .before .before .before .before .before .before .before .before .before .before .before .args .store)) (roomy (c .before .before .before .before .before .before .before .before)) .1
+frame-stored-requires c κs =
+    let tested = c .before .before .before .before .before .before .before .before in
+    room (unit tested) (lent tested) (roomy tested) .1
 
 same-length : tie.Need-same-length
 same-length c = search needs
 
 returns-3 : tie.Need-returns-3
 returns-3 c =
-    let d = c .before .before .before .before .before .before .before .before .before .before .before .before .before .before .args .device in
-    let e = rw (part-from, c .before .before .before .before .before .before .before .frame-length .ensures, frame-of-buffer d) at (c .before .before .before .lay .ensures) in
-    rw (put-from _ _ _ (starts (c .before .before .before .before .before .before .before .before .before)), c .frame-stored .ensures) (stored-gives _ _ _ (not-false _ (c .before .before .before .before .before .before .before .before .before .before .before .if1 .left)) (roomy (c .before .before .before .before .before .before .before .before .before)) (e .1))
+    let tested = c .before .before .before .before .before .before .before .before .before in
+    let e = rw (part-from, c .before .before .before .before .before .before .before .frame-length .ensures, frame-of-buffer (unit tested .transfer)) at (c .before .before .before .lay .ensures) in
+    rw (put-from _ _ _ (starts tested), c .frame-stored .ensures) (stored-gives _ _ _ (not-false _ (tested .before .before .if1 .left)) (roomy tested) (e .1))
 
 pub work-spec : {M : Type 1} → statement M
 work-spec =

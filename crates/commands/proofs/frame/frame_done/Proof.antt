@@ -12,10 +12,10 @@ use Rattle.commands.proofs.frame.frame_done.Statement.{statement}
 use Rattle.commands.proofs.frame.frame_done.Tie as tie
 
 abbrev Inv-loop : tie.InvT-loop
-Inv-loop device payload buffer₀ i₀ buffer i = (i ≤ length payload) × (length buffer ≡ 256) × (buffer ≡ take i payload ++ drop i (replicate 256 0))
+Inv-loop transfer payload buffer₀ i₀ buffer i = (i ≤ length payload) × (length buffer ≡ 256) × (buffer ≡ take i payload ++ drop i (replicate 256 0))
 
 abbrev μ-loop : tie.MeasureT-loop
-μ-loop device payload buffer₀ i₀ buffer i = length payload - i
+μ-loop transfer payload buffer₀ i₀ buffer i = length payload - i
 
 loop-holds : tie.Need-loop-holds Inv-loop μ-loop
 loop-holds c = (omega arith, refl, refl)

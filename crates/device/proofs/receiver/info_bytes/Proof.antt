@@ -1,12 +1,10 @@
 -- Carried by computation, once each number is known as its bytes.
-use Prim.Native.Nat.{_≤_}
 use mathlib.Core.Path.{sym}
 use native.Mathlib.Omega.{arith}
-use lib.ListN.{length}
 use lib.Seq.{length-take-le}
 use Rattle.little_endian.specs.LittleEndian.{toBytes}
 use Rattle.device_rules.specs.Receive.{infoBytes}
-use Rattle.device_rules.proofs.Buffers.{buffer-length, frame-most, frame-of-buffer}
+use Rattle.device_rules.proofs.Buffers.{frame-within, frame-most, frame-of-buffer}
 use borrow.Author.Needs.{needs}
 use Rattle.device.proofs.receiver.info_bytes.Statement.{statement}
 use Rattle.device.proofs.receiver.info_bytes.Tie as tie
@@ -18,19 +16,16 @@ u16-to-bytes-requires : tie.Need-u16-to-bytes-requires
 u16-to-bytes-requires c κs = search needs
 
 cast-u16-to-bytes : tie.Need-cast-u16-to-bytes
-cast-u16-to-bytes c = omega (arith, c .before .frame-length .ensures, frame-most (c .before .before .before .args .device) (c .before .before .before .good .0))
+cast-u16-to-bytes c = omega (arith, c .before .frame-length .ensures, frame-most (c .before .before .before .args .transfer) (c .before .before .before .good .0))
 
 u16-to-bytes-requires-2 : tie.Need-u16-to-bytes-requires-2
 u16-to-bytes-requires-2 c κs = search needs
 
 array-share-prefix-buffer : tie.Need-array-share-prefix-buffer
-array-share-prefix-buffer c = omega (arith, c .before .before .frame-length .ensures, frame-most (c .before .before .before .before .args .device) (c .before .before .before .before .good .0), buffer-length (c .before .before .before .before .args .device) (c .before .before .before .before .good .0))
+array-share-prefix-buffer c = rw (c .before .before .frame-length .ensures) (frame-within _)
 
 slice-aggregate-checksum : tie.Need-slice-aggregate-checksum
-slice-aggregate-checksum c =
-    let d = c .before .before .before .before .before .args .device in
-    let fits : c .before .before .before .frame-length .result ≤ length (d .buffer) = omega (arith, c .before .before .before .frame-length .ensures, frame-most d (c .before .before .before .before .before .good .0), buffer-length d (c .before .before .before .before .before .good .0)) in
-    sym (length-take-le _ _ fits)
+slice-aggregate-checksum c = sym (length-take-le _ _ (array-share-prefix-buffer (c .before)))
 
 checksum-requires : tie.Need-checksum-requires
 checksum-requires c κs = search needs
@@ -62,7 +57,7 @@ flags-requires c κs = search needs
 returns : tie.Need-returns
 unfolding infoBytes toBytes
 returns c =
-    rw (c .before .before .before .before .before .u16-to-bytes .ensures, c .before .before .before .before .u16-to-bytes2 .ensures, c .before .u16-to-bytes3 .ensures, c .before .before .checksum .ensures, c .before .before .before .before .before .before .frame-length .ensures, frame-of-buffer (c .before .before .before .before .before .before .before .before .args .device), c .flags .ensures)
+    rw (c .before .before .before .before .before .u16-to-bytes .ensures, c .before .before .before .before .u16-to-bytes2 .ensures, c .before .u16-to-bytes3 .ensures, c .before .before .checksum .ensures, c .before .before .before .before .before .before .frame-length .ensures, frame-of-buffer (c .before .before .before .before .before .before .before .before .args .transfer), c .flags .ensures)
 
 pub info-bytes-spec : {M : Type 1} → statement M
 info-bytes-spec =

@@ -22,7 +22,7 @@ same-length c = search needs
 
 returns : tie.Need-returns
 unfolding telemetryReply
-returns c = rw (eq-eqb _ _ (c .before .before .before .before .before .before .before .if1 .taken), ← c .before .before .before .before .before .before .info-bytes .ensures, ← c .before .before .before .before .before .answer-to .ensures) (c .before .before .send .ensures)
+returns c = rw (eq-eqb _ _ (c .before .before .before .before .before .before .before .before .if1 .taken), ← c .before .before .before .before .before .before .info-bytes .ensures, ← c .before .before .before .before .before .answer-to .ensures) (c .before .before .send .ensures)
 
 answer-to-requires-2 : tie.Need-answer-to-requires-2
 answer-to-requires-2 c κs = search needs

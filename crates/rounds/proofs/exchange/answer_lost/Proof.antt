@@ -1,7 +1,7 @@
 -- Carried by what the unit told: its answer is dropped, and the sender hears no bytes.
 use borrow.Author.Needs.{needs}
 use mathlib.Core.Path.{refl}
-use Rattle.upload.specs.Schedule.{exchange}
+use Rattle.round_rules.specs.Schedule.{exchange}
 use Rattle.rounds.proofs.Made.{lost-ends, stopped-ends}
 use Rattle.rounds.proofs.Told.{answered, was-silent, was-refused}
 use Rattle.rounds.proofs.exchange.answer_lost.Statement.{statement}

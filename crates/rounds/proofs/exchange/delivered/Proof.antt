@@ -2,7 +2,7 @@
 use borrow.Author.Needs.{needs}
 use mathlib.Core.Path.{sym}
 use lib.Seq.{length-take-le}
-use Rattle.upload.specs.Schedule.{exchange}
+use Rattle.round_rules.specs.Schedule.{exchange}
 use Rattle.rounds.proofs.Made.{delivered-ends, stopped-ends}
 use Rattle.rounds.proofs.Told.{answered, was-silent, was-refused}
 use Rattle.rounds.proofs.exchange.delivered.Statement.{statement}

@@ -3,7 +3,7 @@ use borrow.Author.Needs.{needs}
 use mathlib.Core.Path.{refl}
 use Rattle.message.specs.Answer.{verdictTold}
 use Rattle.upload.specs.Sender.{senderTold}
-use Rattle.upload.specs.World.{senderOr, answerCheck}
+use Rattle.round_rules.specs.World.{requesterOr, answerCheck}
 use Rattle.rounds.proofs.exchange.heard.Statement.{statement}
 use Rattle.rounds.proofs.exchange.heard.Tie as tie
 
@@ -20,11 +20,11 @@ stopped-requires : tie.Need-stopped-requires
 stopped-requires c κs = search needs
 
 returns : tie.Need-returns
-unfolding verdictTold answerCheck senderOr senderTold
+unfolding verdictTold answerCheck requesterOr senderTold
 returns c = rw (← c .before .before .before .hear .ensures, c .before .next .given .1) (refl, refl, refl)
 
 returns-2 : tie.Need-returns-2
-unfolding verdictTold answerCheck senderOr senderTold
+unfolding verdictTold answerCheck requesterOr senderTold
 returns-2 c = rw (← c .before .before .before .before .hear .ensures, c .before .before .refusal .given .1, c .stopped .ensures .2) (refl, c .stopped .ensures .0, c .stopped .ensures .1)
 
 pub heard-spec : {M : Type 1} → statement M

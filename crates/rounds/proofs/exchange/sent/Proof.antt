@@ -1,6 +1,6 @@
 -- Carried by the four fates.
 use borrow.Author.Needs.{needs}
-use Rattle.upload.specs.Schedule.{exchange}
+use Rattle.round_rules.specs.Schedule.{exchange}
 use Rattle.rounds.specs.Ends.{asking}
 use Rattle.rounds.proofs.Made.{last-call}
 use Rattle.rounds.proofs.exchange.sent.Statement.{statement}

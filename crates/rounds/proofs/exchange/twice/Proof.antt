@@ -1,7 +1,7 @@
 -- Carried by the second arrival, which is a delivered one at the unit that the first left.
 use borrow.Author.Needs.{needs}
 use mathlib.Core.Path.{refl}
-use Rattle.upload.specs.Schedule.{exchange}
+use Rattle.round_rules.specs.Schedule.{exchange}
 use Rattle.rounds.proofs.Made.{twice-ends, stopped-ends}
 use Rattle.rounds.proofs.Told.{answered, was-silent, was-refused}
 use Rattle.rounds.proofs.exchange.twice.Statement.{statement}

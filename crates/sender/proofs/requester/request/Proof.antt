@@ -9,7 +9,8 @@ use lib.Seq.{length-take-le}
 use Rattle.little_endian.specs.LittleEndian.{toBytes}
 use Rattle.message.specs.Answer.{within, counted, laid}
 use Rattle.message.proofs.Answers.{long-enough}
-use Rattle.upload.specs.Sender.{nothing, requestTold}
+use Rattle.round_rules.specs.Requester.{nothing}
+use Rattle.upload.specs.Sender.{requestTold}
 use Rattle.sender.proofs.Requests.{ended-asks, changed-asks, running-asks}
 use Rattle.sender.proofs.requester.request.Statement.{statement}
 use Rattle.sender.proofs.requester.request.Tie as tie

@@ -22,19 +22,19 @@ cast-if2-2 : tie.Need-cast-if2-2
 cast-if2-2 c = search needs
 
 add-if2 : tie.Need-add-if2
-add-if2 c = omega (arith, c .before .before .before .frame-length .ensures, frame-most (c .before .before .before .before .args .device) (c .before .before .before .before .good .0), c .struct-known2 .given)
+add-if2 c = omega (arith, c .before .before .before .frame-length .ensures, frame-most (c .before .before .before .before .args .transfer) (c .before .before .before .before .good .0), c .struct-known2 .given)
 
 returns-2 : tie.Need-returns-2
 unfolding bufferFault fault
 returns-2 c =
-    let d = c .before .before .before .before .before .args .device in
+    let d = c .before .before .before .before .before .args .transfer in
     let above : d .size - d .stored < c .before .before .before .before .frame-length .result = omega arith in
     rw (← c .before .before .before .before .frame-length .ensures, ne-eqb _ _ (c .before .before .before .if1 .left), lt-ltb _ _ above)
 
 returns-3 : tie.Need-returns-3
 unfolding bufferFault fault
 returns-3 c =
-    let d = c .before .before .before .before .before .args .device in
+    let d = c .before .before .before .before .before .args .transfer in
     let room : c .before .before .before .before .frame-length .result ≤ d .size - d .stored = omega arith in
     rw (← c .before .before .before .before .frame-length .ensures, ne-eqb _ _ (c .before .before .before .if1 .left), le-ltb _ _ room)
 

@@ -1,0 +1,60 @@
+// What is printed.
+use libc::STDOUT_FILENO;
+use message::Refusal;
+use round_rules::State;
+use upload::Sender;
+
+pub(crate) fn text(bytes: &[u8]) {
+    io::write_all(STDOUT_FILENO, bytes);
+}
+
+pub(crate) fn usage() {
+    text(b"usage: rehearse FILE..\n");
+    text(
+        b"uploads each file on uart, rs485, can and csp, with every round good and with losses, and compares the store with the file.\n",
+    );
+    text(
+        b"A number in place of a file stands for so many made-up bytes: 300 is a length, and ./300 a file.\n",
+    );
+}
+
+pub(crate) fn number(n: u64) {
+    io::print_decimal(STDOUT_FILENO, n);
+}
+
+// The last of so many rounds was refused.
+pub(crate) fn refused_round(count: u32, refusal: Refusal) {
+    text(b"round ");
+    number(count as u64);
+    text(b" ");
+    refused(refusal);
+}
+
+pub(crate) fn refused(refusal: Refusal) {
+    text(b"refused ");
+    number(fields::refusal_number(refusal) as u64);
+    text(b"\n");
+}
+
+// How a sender ended, the frames that it knows stored, and its rounds.
+pub(crate) fn sender(sender: Sender) {
+    let state = sender.state;
+    match state {
+        State::Running => text(b"still running, "),
+        State::Finished => text(b"finished, "),
+        State::GivenUp => text(b"given up, "),
+    }
+    text(b"frames ");
+    number(sender::frames_known(sender));
+    text(b", rounds ");
+    number(sender.rounds as u64);
+    text(b", ");
+}
+
+pub(crate) fn compared(same: bool) {
+    if same {
+        text(b"the store holds the file\n");
+        return;
+    }
+    text(b"THE STORE DOES NOT HOLD THE FILE\n");
+}
