@@ -1,84 +1,28 @@
 -- The laws of reading: what the checks of a message come to, and how the payload of its frames fills the output frame by frame. Carried by
 -- the case of each check, and by induction on the frames still to come.
 use Prim.Native.Nat.{ℕ, zero, suc, _+_, _-_, _≤_, _<_}
-use mathlib.Core.Bool.{Bool, true, false, cond, _&&_, _||_}
-use mathlib.Core.List.{List, [], _++_, append-assoc}
+use mathlib.Core.Bool.{true}
+use mathlib.Core.List.{List, [], _++_}
 use mathlib.Core.Path.{_≡_, refl, ap, sym, _∙_}
 use native.Mathlib.Nat.{zero-add}
 use native.Mathlib.Omega.{arith}
-use borrow.Author.Tests.{ne-eqb, eqb-true, leb-true}
-use lib.Dec.{leb, ltb, eqb}
+use borrow.Author.Tests.{ne-eqb, leb-true}
+use lib.Dec.{leb}
 use lib.ListN.{length, getD, take, drop, length-append, length-drop}
-use lib.Seq.{drop-drop, drop-at, length-take-le, sets, sets-eq}
-use Rattle.message.specs.Answer.{Answer, Check, refused, given, number, passed, failed, require, after, within, counted, laid, written, verdictTold}
-use Rattle.message.specs.Checks.{idLegal, payloadLegal, fieldChecks, writeChecks}
-use Rattle.message.specs.Kinds.{inside, isEvent}
-use Rattle.message.specs.declared.Kind.{Kind}
-use Rattle.message.specs.declared.Kind.the-variants.{Telecommand, TelecommandAck, TelecommandNack, TelemetryRequest, TelemetryResponse, TelemetryNack, Event}
-use Rattle.message.specs.declared.Message.{Message}
-use Rattle.message.specs.declared.Refusal.{Refusal}
-use Rattle.message.specs.declared.Verdict.{Verdict}
-use Rattle.message.specs.declared.Verdict.the-variants.{Passed, Refused}
-use Rattle.message.proofs.Checks.{require-passed}
-use Rattle.message.proofs.Answers.{too-short, long-enough, after-passed}
-use Rattle.message.proofs.Stores.{sets-append}
-use Rattle.can.specs.Can.{firstChecks, laterChecks, laterFrames, allFrames, canMessage, complete, canRead, canCarries, canError, kindOfType, canIdLegal, canFits}
-use Rattle.can.proofs.RoundTrip.{can-writable, error-back, empty, complete-back}
-use Rattle.can.proofs.Series.{prepend-given}
-use Rattle.can_frames.specs.Told.{measured}
-use Rattle.can_frames.proofs.Scanning.{payload, counted-given, behind, refused-measured, given-measured, all-single, all-series, single-dlc, series-dlc, single-counted, later-passed, passed-dlc}
-
--- An event's ID is 255; that of another kind is of the kind's range.
-pub can-id-wrong : (k : Kind) (id : ℕ) → cond (isEvent k) (eqb id 255) true ≡ false → canIdLegal k id ≡ false
-unfolding canIdLegal
-can-id-wrong k id e = by (isEvent k) refl
-  where
-    by : (b : Bool) → isEvent k ≡ b → cond (isEvent k) (eqb id 255) (idLegal k id) ≡ false
-    by true q = rw q (rw q at e)
-    by false q = absurd (let z : _≡_ {A = ℕ} 0 1 = cc (rw q at e) in omega arith)
-
-pub can-id-plain : (k : Kind) (id : ℕ) → cond (isEvent k) (eqb id 255) true ≡ true → canIdLegal k id ≡ idLegal k id
-unfolding canIdLegal isEvent idLegal inside
-can-id-plain Telecommand id e = refl
-can-id-plain TelecommandAck id e = refl
-can-id-plain TelecommandNack id e = refl
-can-id-plain TelemetryRequest id e = refl
-can-id-plain TelemetryResponse id e = refl
-can-id-plain TelemetryNack id e = refl
-can-id-plain Event id e = rw (eqb-true id 255 e)
-
--- The error that CAN reads for a kind is legal, so of the checks of a message to be written 5 and 6 are left.
-pub written-checks : (m : Message) (n : ℕ) → m .error ≡ canError (m .kind)
-    → writeChecks canCarries m n ≡ require (idLegal (m .kind) (m .id)) 5 (require (payloadLegal (m .kind) n) 6 passed)
-unfolding writeChecks fieldChecks require
-written-checks m n e = rw (can-writable m, e, error-back (m .kind))
-
--- What CAN adds to the checks of the kinds comes behind them.
-checks-failed : (a b x : Bool) (k : ℕ) → require a 5 (require b 6 passed) ≡ failed k → require a 5 (require (b && x) 6 passed) ≡ failed k
-unfolding require
-checks-failed true true x k e = absurd (let z : _≡_ {A = ℕ} 0 1 = cc in omega arith)
-checks-failed true false x k e = e
-checks-failed false b x k e = e
-
-checks-passed : (a b x : Bool) → require a 5 (require b 6 passed) ≡ passed → require a 5 (require (b && x) 6 passed) ≡ require x 6 passed
-unfolding require
-checks-passed true true x e = refl
-checks-passed true false x e = absurd (let z : _≡_ {A = ℕ} 0 1 = cc in omega arith)
-checks-passed false b x e = absurd (let z : _≡_ {A = ℕ} 0 1 = cc in omega arith)
-
-module _ (t : ℕ) (m : Message) (n : ℕ) (kind : m .kind ≡ kindOfType t) (event : cond (isEvent (m .kind)) (eqb (m .id) 255) true ≡ true) (error : m .error ≡ canError (m .kind)) where
-  pub message-failed : (k : ℕ) → writeChecks canCarries m n ≡ failed k → require (canIdLegal (kindOfType t) (m .id)) 5 (require (canFits t n) 6 passed) ≡ failed k
-  unfolding canFits
-  message-failed k e =
-      rw (← kind, can-id-plain (m .kind) (m .id) event)
-      (checks-failed (idLegal (m .kind) (m .id)) (payloadLegal (m .kind) n) (ltb t 7 || ltb 8 n) k (sym (written-checks m n error) ∙ e))
-
-  pub message-passed : writeChecks canCarries m n ≡ passed
-      → require (canIdLegal (kindOfType t) (m .id)) 5 (require (canFits t n) 6 passed) ≡ require (ltb t 7 || ltb 8 n) 6 passed
-  unfolding canFits
-  message-passed e =
-      rw (← kind, can-id-plain (m .kind) (m .id) event)
-      (checks-passed (idLegal (m .kind) (m .id)) (payloadLegal (m .kind) n) (ltb t 7 || ltb 8 n) (sym (written-checks m n error) ∙ e))
+use lib.Seq.{drop-at, length-take-le, sets, sets-eq}
+use Rattle.message_rules.specs.Answer.{Answer, Check, refused, given, number, passed, require, after, within, counted, outputAfter, written, verdictResult}
+use Rattle.message_rules.specs.declared.Message.{Message}
+use Rattle.message_rules.specs.declared.Refusal.{Refusal}
+use Rattle.message_rules.specs.declared.Verdict.{Verdict}
+use Rattle.message_rules.specs.declared.Verdict.the-variants.{Passed, Refused}
+use Rattle.message_rules.proofs.Checks.{require-passed}
+use Rattle.message_rules.proofs.Answers.{too-short, long-enough, after-passed}
+use Rattle.message_rules.proofs.Stores.{sets-append}
+use Rattle.can_rules.specs.Can.{firstChecks, laterChecks, laterFrames, allFrames, canMessage, messageChecks, complete, canRead}
+use Rattle.can_rules.proofs.RoundTrip.{empty, complete-back}
+use Rattle.can_rules.proofs.Series.{prepend-given}
+use Rattle.can_scan.specs.Measured.{measured}
+use Rattle.can_scan.proofs.Scanning.{payload, counted-given, restOf, refused-measured, given-measured, all-single, all-series, single-dlc, series-dlc, single-counted, later-passed, passed-dlc}
 
 module _ {A : Type 0} where
   pub within-short : (x : Answer A (List ℕ)) (a : A) (n : ℕ) (out : List ℕ) → counted x ≡ given a n → length out < n → within out x ≡ refused 8
@@ -107,72 +51,69 @@ frames-first b rest p e =
 pub counted-first : (b rest : List ℕ) (n : ℕ) → counted (allFrames b) ≡ given rest n → (13 ≤ length b) × (firstChecks (take 13 b) ≡ passed)
 counted-first b rest n e = frames-first b rest (payload (allFrames b)) (counted-given (allFrames b) rest n e .0)
 
--- Frames that passed their checks, with a payload of n bytes: what is left are the checks of the message.
-abbrev MessageChecks : List ℕ → ℕ → Check
-MessageChecks b n = require (canIdLegal (kindOfType (getD b 3 0)) (getD b 2 0)) 5 (require (canFits (getD b 3 0) n) 6 passed)
-
+-- Frames that passed their checks: what is left are the checks of the message.
 no-more : (c : Check) (x : Answer Message (List ℕ)) → after (require true 4 c) x ≡ after c x
 unfolding require
 no-more c x = refl
 
-complete-checked : (b r p : List ℕ) → length r ≡ 0 → complete b (given r p) ≡ after (MessageChecks b (length p)) (given (canMessage b) p)
+complete-checked : (b r p : List ℕ) → length r ≡ 0 → complete b (given r p) ≡ after (messageChecks (getD b 3 0) (canMessage b) (length p)) (given (canMessage b) p)
 unfolding complete
-complete-checked b r p h = rw h (no-more (MessageChecks b (length p)) (given (canMessage b) p))
+complete-checked b r p h = rw h (no-more (messageChecks (getD b 3 0) (canMessage b) (length p)) (given (canMessage b) p))
 
 -- The same as the scan tells it: so many bytes are left, and the payload has n.
 module _ (b : List ℕ) (left n : ℕ) (frames : measured (allFrames b) ≡ given left n) where
-  scanned : (counted (allFrames b) ≡ given (behind (allFrames b)) n) × (length (behind (allFrames b)) ≡ left)
+  scanned : (counted (allFrames b) ≡ given (restOf (allFrames b)) n) × (length (restOf (allFrames b)) ≡ left)
   scanned = given-measured (allFrames b) left n frames
 
   pub whole-long : 13 ≤ length b
-  whole-long = counted-first b (behind (allFrames b)) n (scanned .0) .0
+  whole-long = counted-first b (restOf (allFrames b)) n (scanned .0) .0
 
   pub whole-trailing : 0 < left → canRead b ≡ refused 4
   unfolding canRead complete require after
-  whole-trailing h = rw (counted-given (allFrames b) _ n (scanned .0) .0, ne-eqb (length (behind (allFrames b))) 0 (λ z. omega (arith, z, scanned .1)))
+  whole-trailing h = rw (counted-given (allFrames b) _ n (scanned .0) .0, ne-eqb (length (restOf (allFrames b))) 0 (λ z. omega (arith, z, scanned .1)))
 
   -- With nothing left, the verdict on the message that the first frame tells decides.
-  module _ (none : left ≤ 0) (m : Message) (first : m ≡ canMessage b) (v : Verdict) (told : verdictTold v ≡ require (canIdLegal (kindOfType (getD b 3 0)) (m .id)) 5 (require (canFits (getD b 3 0) n) 6 passed)) where
-    whole-checked : canRead b ≡ after (verdictTold v) (given m (payload (allFrames b)))
-    unfolding canRead canMessage
+  module _ (none : left ≤ 0) (m : Message) (first : m ≡ canMessage b) (v : Verdict) (says : verdictResult v ≡ messageChecks (getD b 3 0) m n) where
+    whole-checked : canRead b ≡ after (verdictResult v) (given m (payload (allFrames b)))
+    unfolding canRead
     whole-checked =
         let g = counted-given (allFrames b) _ n (scanned .0) in
-        ap (complete b) (g .0) ∙ complete-checked b _ (payload (allFrames b)) (omega (arith, scanned .1)) ∙ rw (g .1, told, first)
+        ap (complete b) (g .0) ∙ complete-checked b _ (payload (allFrames b)) (omega (arith, scanned .1)) ∙ rw (g .1, says, first)
 
     pub whole-refused : (r : Refusal) → v ≡ Refused r → canRead b ≡ refused (number r)
-    unfolding after verdictTold
+    unfolding after verdictResult
     whole-refused r e = whole-checked ∙ rw e
 
     pub whole-given : v ≡ Passed → counted (canRead b) ≡ given m n
-    unfolding after verdictTold counted
+    unfolding after verdictResult counted
     whole-given e = rw (whole-checked, e) (ap (given m) (counted-given (allFrames b) _ n (scanned .0) .1))
 
 -- A message that was read is that of its frames, all of the input.
-module _ (b : List ℕ) (m : Message) (n : ℕ) (told : counted (canRead b) ≡ given m n) where
+module _ (b : List ℕ) (m : Message) (n : ℕ) (says : counted (canRead b) ≡ given m n) where
   all-given : allFrames b ≡ given [] (payload (canRead b))
   unfolding canRead
-  all-given = complete-back b (allFrames b) m (payload (canRead b)) (counted-given (canRead b) m n told .0) .0
+  all-given = complete-back b (allFrames b) m (payload (canRead b)) (counted-given (canRead b) m n says .0) .0
 
   pub read-frames : counted (allFrames b) ≡ given [] n
   unfolding counted
-  read-frames = ap counted all-given ∙ ap (given []) (counted-given (canRead b) m n told .1)
+  read-frames = ap counted all-given ∙ ap (given []) (counted-given (canRead b) m n says .1)
 
-  pub read-laid : (out : List ℕ) → laid (canRead b) out ≡ laid (allFrames b) out
-  unfolding laid
-  read-laid out = ap (λ (x : Answer Message (List ℕ)). laid x out) (counted-given (canRead b) m n told .0) ∙ sym (ap (λ (x : Answer (List ℕ) (List ℕ)). laid x out) all-given)
+  pub read-output : (out : List ℕ) → outputAfter (canRead b) out ≡ outputAfter (allFrames b) out
+  unfolding outputAfter
+  read-output out = ap (λ (x : Answer Message (List ℕ)). outputAfter x out) (counted-given (canRead b) m n says .0) ∙ sym (ap (λ (x : Answer (List ℕ) (List ℕ)). outputAfter x out) all-given)
 
-  pub read-single : getD b 3 0 < 7 → (5 + n ≤ length b) × ((out : List ℕ) → laid (canRead b) out ≡ take n (drop 5 b) ++ drop n out)
-  unfolding laid
+  pub read-single : getD b 3 0 < 7 → (5 + n ≤ length b) × ((out : List ℕ) → outputAfter (canRead b) out ≡ take n (drop 5 b) ++ drop n out)
+  unfolding outputAfter
   read-single h =
       let f = counted-first b [] n read-frames in
       let size : getD b 4 0 ≡ n = cc (single-counted b (f .0) (f .1) h, read-frames) in
       let d = single-dlc b (f .0) (f .1) h in
       let long : length (take n (drop 5 b)) ≡ n = length-take-le n (drop 5 b) (rw length-drop (omega (arith, d, size, f .0))) in
-      (omega (arith, d, size, f .0), λ out. read-laid out ∙ ap (λ (x : Answer (List ℕ) (List ℕ)). laid x out) (all-single b (f .0) (f .1) h) ∙ rw (size, long))
+      (omega (arith, d, size, f .0), λ out. read-output out ∙ ap (λ (x : Answer (List ℕ) (List ℕ)). outputAfter x out) (all-single b (f .0) (f .1) h) ∙ rw (size, long))
 
-  pub read-lay : (out last : List ℕ) → getD b 3 0 < 7 → n ≤ length out → last ≡ laid (within out (written (take n (drop 5 b)))) out → last ≡ laid (canRead b) out
-  unfolding laid
-  read-lay out last h room e =
+  pub read-put : (out last : List ℕ) → getD b 3 0 < 7 → n ≤ length out → last ≡ outputAfter (within out (written (take n (drop 5 b)))) out → last ≡ outputAfter (canRead b) out
+  unfolding outputAfter
+  read-put out last h room e =
       let s = read-single h in
       let long : length (take n (drop 5 b)) ≡ n = length-take-le n (drop 5 b) (rw length-drop (omega (arith, s .0))) in
       let fits : length (take n (drop 5 b)) ≤ length out = omega (arith, long) in
@@ -213,14 +154,6 @@ series-run b r p e h =
     let m = run-more b (getD b 12 0) 0 (g .0) (f .0) (omega (arith, dlc)) (omega (arith, dlc)) (later-run b (take 4 b) (getD b 12 0) 13 r (g .0) (g .1)) in
     rw (← g .2) (rw dlc at m)
 
--- What `lay` leaves of an output behind the first bytes are stores from there on.
-pub lay-sets : (d out part : List ℕ) (to : ℕ) → to + length d ≤ length out → part ≡ laid (within (drop to out) (written d)) (drop to out) → take to out ++ part ≡ sets out to d
-unfolding laid
-lay-sets d out part to room e =
-    let fits : length d ≤ length (drop to out) = rw length-drop (omega arith) in
-    let all : part ≡ d ++ drop (length d) (drop to out) = e ∙ rw (long-enough (drop to out) (tt {0}) d fits) in
-    rw (all, sets-eq d out to room, drop-drop, append-assoc)
-
 -- Before a turn of the copy: the rest of the payload, stored from `to` on, makes the output whole.
 pub record Storing (b whole out : List ℕ) (size at to : ℕ) : Type 0 where
   pub left : ℕ
@@ -229,16 +162,16 @@ pub record Storing (b whole out : List ℕ) (size at to : ℕ) : Type 0 where
   pub fits : to + length rest ≡ size
   pub same : sets out to rest ≡ whole
 
-pub store-first : (b out : List ℕ) (size : ℕ) → counted (allFrames b) ≡ given [] size → 7 ≤ getD b 3 0 → size ≤ length out → Storing b (laid (allFrames b) out) out size 0 0
-unfolding laid
+pub store-first : (b out : List ℕ) (size : ℕ) → counted (allFrames b) ≡ given [] size → 7 ≤ getD b 3 0 → size ≤ length out → Storing b (outputAfter (allFrames b) out) out size 0 0
+unfolding outputAfter
 store-first b out size e h room =
     let g = counted-given (allFrames b) [] size e in
     let p = payload (allFrames b) in
-    let whole : laid (allFrames b) out ≡ p ++ drop (length p) out = ap (λ (x : Answer (List ℕ) (List ℕ)). laid x out) (g .0) in
+    let whole : outputAfter (allFrames b) out ≡ p ++ drop (length p) out = ap (λ (x : Answer (List ℕ) (List ℕ)). outputAfter x out) (g .0) in
     let stored : sets out 0 p ≡ p ++ drop (length p) out = rw (sets-eq p out 0 (omega (arith, g .1)), zero-add) in
     record { left = suc (getD b 12 0); rest = p; run = series-run b [] p (g .0) h; fits = omega (arith, g .1); same = stored ∙ sym whole }
 
--- The frame at a place of the copy, and the copy behind it.
+-- The frame at a place of the copy, and the copy after it.
 pub record Turn (b whole out : List ℕ) (size at to : ℕ) : Type 0 where
   pub room : at + 13 ≤ length b
   pub low : 1 ≤ getD b (at + 4) 0

@@ -1,29 +1,30 @@
 // What the first frame tells of a message, and the checks of the message that frames make up, in their order.
 ghost use Prim.Native.Nat.{_≤_};
 ghost use mathlib.Core.Path.{_≡_};
-ghost use mathlib.Core.Bool.{true, cond};
-ghost use lib.Dec.{eqb};
 ghost use lib.ListN.{length};
-ghost use Rattle.message.specs.Answer.{verdictTold, passed, require};
-ghost use Rattle.message.specs.Kinds.{isEvent};
-ghost use Rattle.can.specs.Can.{kindOfType, canError, canMessage, canIdLegal, canFits};
-use message::Carries;
-use message::ErrorByte;
-use message::Kind;
-use message::Message;
-use message::Refusal;
-use message::Verdict;
+ghost use Rattle.message_rules.specs.Answer.{verdictResult};
+ghost use Rattle.can_rules.specs.Can.{seriesKind, kindOfType, canError, canMessage, canIdLegal, canFits, messageChecks};
+use message_rules::ErrorByte;
+use message_rules::Kind;
+use message_rules::KindLookup;
+use message_rules::Message;
+use message_rules::Refusal;
+use message_rules::Verdict;
 
+// The kind of a type: a single frame's, or else a series'.
 fn kind_of_type(t: u8) -> Kind
     ensures { λ r. ⌜ r ≡ kindOfType t ⌝ }
 {
+    match message_fields::type_kind(t) {
+        KindLookup::Known(kind) => kind,
+        KindLookup::Unknown => series_kind(t),
+    }
+}
+
+fn series_kind(t: u8) -> Kind
+    ensures { λ r. ⌜ r ≡ seriesKind t ⌝ }
+{
     match t {
-        1 => Kind::Telecommand,
-        2 => Kind::TelecommandAck,
-        3 => Kind::TelecommandNack,
-        4 => Kind::TelemetryRequest,
-        5 => Kind::TelemetryResponse,
-        6 => Kind::TelemetryNack,
         7 => Kind::Telecommand,
         8 => Kind::TelemetryResponse,
         _ => Kind::Event,
@@ -34,7 +35,7 @@ fn kind_of_type(t: u8) -> Kind
 fn can_error(kind: Kind) -> ErrorByte
     ensures { λ r. ⌜ r ≡ canError kind ⌝ }
 {
-    if kinds::error_length(kind) == 2 {
+    if message_fields::is_nack(kind) {
         return ErrorByte::NotTold;
     }
     ErrorByte::Told(0)
@@ -57,41 +58,36 @@ pub(crate) fn can_message(bytes: &[u8]) -> Message
     }
 }
 
-// An event's ID is 255; the other kinds' are not looked at here.
-fn event_id_legal(kind: Kind, id: u8) -> bool
-    ensures { λ r. ⌜ r ≡ cond (isEvent kind) (eqb id 255) true ⌝ }
-{
-    if kinds::type_number(kind) == 9 {
-        return id == 255;
-    }
-    true
-}
-
-// The checks 5 and 6 of a message that came with type t and a payload of this length. What CAN adds to the checks of the kinds: an
-// event's ID is 255, and a series has more than 8 bytes.
-pub(crate) fn message_checks(t: u8, message: Message, length: usize) -> Verdict
-    requires { ⌜ (message .kind ≡ kindOfType t) × (message .error ≡ canError (message .kind)) ⌝ }
-    ensures { λ r. ⌜ verdictTold r ≡ require (canIdLegal (kindOfType t) (message .id)) 5 (require (canFits t length) 6 passed) ⌝ }
+// The checks 5 and 6 of a message that came with type t and a payload of this size.
+pub(crate) fn check_message(t: u8, message: Message, size: usize) -> Verdict
+    ensures { λ r. ⌜ verdictResult r ≡ messageChecks t message size ⌝ }
 {
     let kind = message.kind;
-    if !event_id_legal(kind, message.id) {
+    if !can_id_legal(kind, message.id) {
         return Verdict::Refused(Refusal::IdOutOfRange);
     }
-    let carries = Carries {
-        events: true,
-        untold: true,
-    };
-    // Of the checks for writing, 9 and 7 cannot come here: CAN carries every kind, and the error that it reads is legal.
-    match checks::check_written(carries, message, length) {
-        Verdict::Refused(refusal) => Verdict::Refused(refusal),
-        Verdict::Passed => {
-            if t < 7 {
-                return Verdict::Passed;
-            }
-            if 8 < length {
-                return Verdict::Passed;
-            }
-            Verdict::Refused(Refusal::WrongLength)
-        }
+    if !can_fits(t, kind, size) {
+        return Verdict::Refused(Refusal::WrongLength);
     }
+    Verdict::Passed
+}
+
+// An event's ID is 255, and that of another kind of the kind's range.
+fn can_id_legal(kind: Kind, id: u8) -> bool
+    ensures { λ r. ⌜ r ≡ canIdLegal kind id ⌝ }
+{
+    if message_fields::is_event(kind) {
+        return id == 255;
+    }
+    message_checks::id_legal(kind, id)
+}
+
+// The kind can have a payload of this size, and a series has more than a frame's data.
+fn can_fits(t: u8, kind: Kind, size: usize) -> bool
+    ensures { λ r. ⌜ r ≡ canFits t kind size ⌝ }
+{
+    if !message_checks::payload_legal(kind, size) {
+        return false;
+    }
+    t < can_rules::FIRST_SERIES || can_rules::DATA < size
 }

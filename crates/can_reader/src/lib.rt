@@ -1,4 +1,4 @@
-// Reading a message from its CAN frames, by the rules of `can`.
+// Reading a message from its CAN frames, by the rules of `can_rules`.
 mod check;
 mod reader;
 

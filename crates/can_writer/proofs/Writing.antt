@@ -1,21 +1,21 @@
--- How frames are stored. Carried by the law of runs of stores: a run behind another is one run of both parts.
+-- How frames are stored. Carried by the law of runs of stores: a run after another is one run of both parts.
 use Prim.Native.Nat.{ℕ, zero, suc, _+_, _-_, _*_, _≤_, _<_}
 use mathlib.Core.List.{List, [], _∷_, _++_, append-assoc}
 use mathlib.Core.Path.{_≡_, refl, _∙_, sym, ap}
 use native.Mathlib.Omega.{arith}
 use lib.ListN.{length, set, take, drop, replicate, length-append, length-drop}
 use lib.Seq.{sets, length-take-le, drop-drop}
-use Rattle.message.specs.Answer.{given, written, writeTold, within, counted, laid}
-use Rattle.message.specs.declared.Refusal.the-variants.{OutputTooShort}
-use Rattle.message.specs.declared.WriteAnswer.the-variants.{Refused, Length}
-use Rattle.message.proofs.Answers.{too-short, long-enough}
-use Rattle.message.proofs.Parts.{part-from}
-use Rattle.message.proofs.Stores.{sets-append, sets-start}
-use Rattle.can.specs.Can.{frame, series}
-use Rattle.can.proofs.Lengths.{frame-length}
+use Rattle.message_rules.specs.Answer.{given, written, writeResult, within, counted, outputAfter}
+use Rattle.message_rules.specs.declared.Refusal.the-variants.{OutputTooShort}
+use Rattle.message_rules.specs.declared.WriteAnswer.the-variants.{Refused, Length}
+use Rattle.message_rules.proofs.Answers.{too-short, long-enough}
+use Rattle.message_rules.proofs.Parts.{part-from}
+use Rattle.message_rules.proofs.Stores.{sets-append, sets-start}
+use Rattle.can_rules.specs.Can.{frame, series}
+use Rattle.can_rules.proofs.Lengths.{frame-length}
 
 module _ (i : List ℕ) (four : length i ≡ 4) where
-  -- The head, the data and the zeros, each stored behind the last, are the frame.
+  -- The head, the data and the zeros, each stored after the last, are the frame.
   pub frame-stored : (d out head filled left : List ℕ) (at : ℕ)
       → head ≡ sets out at (i ++ (length d ∷ [])) → filled ≡ sets head (at + 5) d → left ≡ sets filled (at + 5 + length d) (replicate (8 - length d) 0)
       → left ≡ sets out at (frame i d)
@@ -38,7 +38,7 @@ module _ (i : List ℕ) (four : length i ≡ 4) where
       let filled : set copied (at + 4 + (length d + 1)) n ≡ sets head (at + 5) (d ++ (n ∷ [])) = rw (f, place) (sets-append head (at + 5) d (n ∷ [])) in
       frame-stored (d ++ (n ∷ [])) out head (set copied (at + 4 + (length d + 1)) n) left at (rw size e) filled (rw size g)
 
-  -- A series goes on behind its first frame.
+  -- A series goes on after its first frame.
   series-more : (p out next : List ℕ) (at n : ℕ) → 0 < n → 7 ≤ length p → next ≡ sets out at (frame i (take 7 p ++ (n ∷ []))) → sets next (at + 13) (series i (n - 1) (drop 7 p)) ≡ sets out at (series i n p)
   unfolding series
   series-more p out next at zero h l e = absurd (omega arith)
@@ -51,15 +51,15 @@ module _ (i : List ℕ) (four : length i ≡ 4) where
 
 -- Between two frames of a series: so many are left, from `done` of the payload on, at a place that has room for them. What is stored,
 -- with them, is the whole. Each but the last takes seven bytes of the payload, and the last fewer.
-pub record Going (i out₀ p : List ℕ) (behind : ℕ) (out : List ℕ) (left done at : ℕ) : Type 0 where
+pub record Going (i out₀ p : List ℕ) (later : ℕ) (out : List ℕ) (left done at : ℕ) : Type 0 where
   pub kept : length out ≡ length out₀
   pub full : done + left * 7 ≤ length p
   pub last : length p < done + left * 7 + 7
   pub room : at + 13 * (left + 1) ≤ length out
-  pub whole : sets out at (series i left (drop done p)) ≡ sets out₀ 0 (series i behind p)
+  pub whole : sets out at (series i left (drop done p)) ≡ sets out₀ 0 (series i later p)
 
-module _ (i : List ℕ) (four : length i ≡ 4) (out₀ p out next : List ℕ) (behind left done at : ℕ) (going : Going i out₀ p behind out left done at) where
-  pub series-turn : 0 < left → length next ≡ length out → next ≡ sets out at (frame i (take (done + 7 - done) (drop done p) ++ (left ∷ []))) → Going i out₀ p behind next (left - 1) (done + 7) (at + 13)
+module _ (i : List ℕ) (four : length i ≡ 4) (out₀ p out next : List ℕ) (later left done at : ℕ) (going : Going i out₀ p later out left done at) where
+  pub series-turn : 0 < left → length next ≡ length out → next ≡ sets out at (frame i (take (done + 7 - done) (drop done p) ++ (left ∷ []))) → Going i out₀ p later next (left - 1) (done + 7) (at + 13)
   series-turn h k e =
       let seven : done + 7 - done ≡ 7 = omega arith in
       let enough : 7 ≤ length (drop done p) = rw length-drop (omega arith) in
@@ -71,18 +71,18 @@ module _ (i : List ℕ) (four : length i ≡ 4) (out₀ p out next : List ℕ) (
         whole = (rw drop-drop at (series-more i four (drop done p) out next at left h enough (rw seven at e))) ∙ going .whole;
       }
 
-  pub series-end : left ≡ 0 → next ≡ sets out at (frame i (take (length p - done) (drop done p) ++ (0 ∷ []))) → next ≡ sets out₀ 0 (series i behind p)
+  pub series-end : left ≡ 0 → next ≡ sets out at (frame i (take (length p - done) (drop done p) ++ (0 ∷ []))) → next ≡ sets out₀ 0 (series i later p)
   unfolding series
   series-end z e = (rw part-from at e) ∙ (rw z at (going .whole))
 
 -- The answer where the bytes do not fit, and where they were stored from the start on.
 module _ (b out : List ℕ) (n : ℕ) (size : length b ≡ n) where
-  pub refused-short : length out < n → (writeTold (Refused OutputTooShort) ≡ counted (within out (written b))) × (out ≡ laid (within out (written b)) out)
-  unfolding writeTold counted laid
+  pub refused-short : length out < n → (writeResult (Refused OutputTooShort) ≡ counted (within out (written b))) × (out ≡ outputAfter (within out (written b)) out)
+  unfolding writeResult counted outputAfter
   refused-short h = rw (too-short out (tt {0}) b (rw size h)) (refl, refl)
 
-  pub given-stored : (left : List ℕ) → n ≤ length out → left ≡ sets out 0 b → (writeTold (Length n) ≡ counted (within out (written b))) × (left ≡ laid (within out (written b)) out)
-  unfolding writeTold counted laid
+  pub given-stored : (left : List ℕ) → n ≤ length out → left ≡ sets out 0 b → (writeResult (Length n) ≡ counted (within out (written b))) × (left ≡ outputAfter (within out (written b)) out)
+  unfolding writeResult counted outputAfter
   given-stored left h e =
       let fits : length b ≤ length out = rw size h in
       rw (long-enough out (tt {0}) b fits) (ap (given (tt {0})) (sym size), e ∙ sets-start b out fits)

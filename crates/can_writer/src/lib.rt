@@ -1,4 +1,4 @@
-// Writing a message as CAN frames, by the rules of `can`.
+// Writing a message as CAN frames, by the rules of `can_rules`.
 mod writer;
 
 pub use writer::write;

@@ -1,31 +1,34 @@
 // Writing a message as one frame or a series: everything is checked and counted before the first byte is stored, so a refusal leaves
 // the lent output as it came.
-ghost use Prim.Native.Nat.{_+_, _*_, _≤_, _<_};
+ghost use Prim.Native.Nat.{_+_, _*_, _≤_};
 ghost use mathlib.Core.Bool.{cond};
 ghost use mathlib.Core.Path.{_≡_};
 ghost use mathlib.Core.List.{[], _∷_, _++_};
 ghost use lib.ListN.{length, replicate};
 ghost use lib.Seq.{sets};
-ghost use Rattle.message.specs.Answer.{writeTold, within, counted, laid, written};
-ghost use Rattle.message.specs.Kinds.{isEvent, typeNumber};
-ghost use Rattle.can.specs.Can.{seriesType, identifier, frame, inSeries, series, framesBehind, canBytes, canWrite};
-use message::Carries;
-use message::Kind;
-use message::Message;
-use message::Refusal;
-use message::Verdict;
-use message::WriteAnswer;
+ghost use Rattle.message_rules.specs.Answer.{writeResult, within, counted, outputAfter, written};
+ghost use Rattle.message_rules.specs.Kinds.{isEvent};
+ghost use Rattle.can_rules.specs.Can.{frameSize, dataSize, partSize, seriesType, identifier, frame, inSeries, series, framesAfter, singleBytes, seriesBytes, canBytes, canWrite};
+use can_rules::DATA;
+use can_rules::FRAME;
+use can_rules::PART;
+use message_rules::Carries;
+use message_rules::Kind;
+use message_rules::Message;
+use message_rules::Refusal;
+use message_rules::Verdict;
+use message_rules::WriteAnswer;
 
 // Writes a message with its payload to the start of out.
 pub fn write(message: Message, payload: &[u8], out: &mut [u8]) -> WriteAnswer
-    ensures { λ r. ⌜ writeTold r ≡ counted (within (now (out .entry)) (canWrite message (now (payload .entry)))) ⌝ }
-    ensures { λ _. ⌜ now (out .exit) ≡ laid (within (now (out .entry)) (canWrite message (now (payload .entry)))) (now (out .entry)) ⌝ }
+    ensures { λ r. ⌜ writeResult r ≡ counted (within (now (out .entry)) (canWrite message (now (payload .entry)))) ⌝ }
+    ensures { λ _. ⌜ now (out .exit) ≡ outputAfter (within (now (out .entry)) (canWrite message (now (payload .entry)))) (now (out .entry)) ⌝ }
 {
     let carries = Carries {
         events: true,
-        untold: true,
+        errors: false,
     };
-    match checks::check_written(carries, message, payload.len()) {
+    match message_checks::check_written(carries, message, payload.len()) {
         Verdict::Refused(refusal) => WriteAnswer::Refused(refusal),
         Verdict::Passed => write_checked(message, payload, out),
     }
@@ -34,8 +37,8 @@ pub fn write(message: Message, payload: &[u8], out: &mut [u8]) -> WriteAnswer
 // Writes a message that passed its checks, which allow a payload of at most 256 bytes.
 fn write_checked(message: Message, payload: &[u8], out: &mut [u8]) -> WriteAnswer
     requires { ⌜ length (now payload) ≤ 256 ⌝ }
-    ensures { λ r. ⌜ writeTold r ≡ counted (within (now (out .entry)) (written (canBytes message (now (payload .entry))))) ⌝ }
-    ensures { λ _. ⌜ now (out .exit) ≡ laid (within (now (out .entry)) (written (canBytes message (now (payload .entry))))) (now (out .entry)) ⌝ }
+    ensures { λ r. ⌜ writeResult r ≡ counted (within (now (out .entry)) (written (canBytes message (now (payload .entry))))) ⌝ }
+    ensures { λ _. ⌜ now (out .exit) ≡ outputAfter (within (now (out .entry)) (written (canBytes message (now (payload .entry))))) (now (out .entry)) ⌝ }
 {
     let kind = message.kind;
     if in_series(kind, payload.len()) {
@@ -45,103 +48,94 @@ fn write_checked(message: Message, payload: &[u8], out: &mut [u8]) -> WriteAnswe
     }
 }
 
-fn in_series(kind: Kind, length: usize) -> bool
-    ensures { λ r. ⌜ r ≡ inSeries kind length ⌝ }
+fn in_series(kind: Kind, size: usize) -> bool
+    ensures { λ r. ⌜ r ≡ inSeries kind size ⌝ }
 {
-    is_event(kind) || 8 < length
+    message_fields::is_event(kind) || DATA < size
 }
 
-fn is_event(kind: Kind) -> bool
-    ensures { λ r. ⌜ r ≡ isEvent kind ⌝ }
-{
-    kinds::type_number(kind) == 9
-}
-
-// The type of a kind in a series.
+// The type of a kind in a series: a long tc is 7 and a long tlmrsp 8, and an event has its own.
 fn series_type(kind: Kind) -> u8
     ensures { λ r. ⌜ r ≡ seriesType kind ⌝ }
 {
-    match kind {
-        Kind::Telecommand => 7,
-        Kind::TelecommandAck => 2,
-        Kind::TelecommandNack => 3,
-        Kind::TelemetryRequest => 4,
-        Kind::TelemetryResponse => 8,
-        Kind::TelemetryNack => 6,
-        Kind::Event => 9,
+    let number = message_fields::type_number(kind);
+    match number {
+        1 => 7,
+        5 => 8,
+        _ => number,
     }
 }
 
 fn write_single(message: Message, payload: &[u8], out: &mut [u8]) -> WriteAnswer
-    requires { ⌜ length (now payload) ≤ 8 ⌝ }
-    ensures { λ r. ⌜ writeTold r ≡ counted (within (now (out .entry)) (written (frame (identifier (typeNumber (message .kind)) message) (now (payload .entry))))) ⌝ }
-    ensures { λ _. ⌜ now (out .exit) ≡ laid (within (now (out .entry)) (written (frame (identifier (typeNumber (message .kind)) message) (now (payload .entry))))) (now (out .entry)) ⌝ }
+    requires { ⌜ length (now payload) ≤ dataSize ⌝ }
+    ensures { λ r. ⌜ writeResult r ≡ counted (within (now (out .entry)) (written (singleBytes message (now (payload .entry))))) ⌝ }
+    ensures { λ _. ⌜ now (out .exit) ≡ outputAfter (within (now (out .entry)) (written (singleBytes message (now (payload .entry))))) (now (out .entry)) ⌝ }
 {
-    if out.len() < 13 {
+    if out.len() < FRAME {
         return WriteAnswer::Refused(Refusal::OutputTooShort);
     }
     let kind = message.kind;
-    let number = kinds::type_number(kind);
+    let number = message_fields::type_number(kind);
     put_single(message, number, payload, out);
-    WriteAnswer::Length(13)
+    WriteAnswer::Length(FRAME)
 }
 
 // Every frame of a series but the last has seven bytes of the payload.
 fn write_series(message: Message, payload: &[u8], out: &mut [u8]) -> WriteAnswer
     requires { ⌜ length (now payload) ≤ 256 ⌝ }
-    ensures { λ r. ⌜ writeTold r ≡ counted (within (now (out .entry)) (written (series (identifier (seriesType (message .kind)) message) (framesBehind (length (now (payload .entry)))) (now (payload .entry))))) ⌝ }
-    ensures { λ _. ⌜ now (out .exit) ≡ laid (within (now (out .entry)) (written (series (identifier (seriesType (message .kind)) message) (framesBehind (length (now (payload .entry)))) (now (payload .entry))))) (now (out .entry)) ⌝ }
+    ensures { λ r. ⌜ writeResult r ≡ counted (within (now (out .entry)) (written (seriesBytes message (now (payload .entry))))) ⌝ }
+    ensures { λ _. ⌜ now (out .exit) ≡ outputAfter (within (now (out .entry)) (written (seriesBytes message (now (payload .entry))))) (now (out .entry)) ⌝ }
 {
-    let behind = payload.len() / 7;
-    let length = 13 * (behind + 1);
-    if out.len() < length {
+    let later = payload.len() / PART;
+    let size = FRAME * (later + 1);
+    if out.len() < size {
         return WriteAnswer::Refused(Refusal::OutputTooShort);
     }
     let kind = message.kind;
     let number = series_type(kind);
-    put_series(message, number, payload, behind, out);
-    WriteAnswer::Length(length)
+    put_series(message, number, payload, later, out);
+    WriteAnswer::Length(size)
 }
 
-// Puts the frames over the start of out, which has room for them, so many behind the first.
-fn put_series(message: Message, number: u8, payload: &[u8], behind: usize, out: &mut [u8])
-    requires { ⌜ (length (now payload) ≤ 256) × (behind * 7 ≤ length (now payload)) × (length (now payload) < behind * 7 + 7) × (13 * (behind + 1) ≤ length (now out)) ⌝ }
-    ensures { λ _. ⌜ now (out .exit) ≡ sets (now (out .entry)) 0 (series (identifier number message) behind (now (payload .entry))) ⌝ }
+// Puts the frames over the start of out, which has room for them, so many after the first.
+fn put_series(message: Message, number: u8, payload: &[u8], later: usize, out: &mut [u8])
+    requires { ⌜ (length (now payload) ≤ 256) × (later ≡ framesAfter (length (now payload))) × (frameSize * (later + 1) ≤ length (now out)) ⌝ }
+    ensures { λ _. ⌜ now (out .exit) ≡ sets (now (out .entry)) 0 (series (identifier number message) later (now (payload .entry))) ⌝ }
 {
-    let mut left = behind;
+    let mut left = later;
     let mut done = 0;
     let mut at = 0;
     while 0 < left {
-        let next = done + 7;
+        let next = done + PART;
         put_counted(message, number, &payload[done..next], left as u8, out, at);
         left -= 1;
         done = next;
-        at += 13;
+        at += FRAME;
     }
     put_counted(message, number, &payload[done..], 0, out, at);
 }
 
-// Puts a frame of a series: the data, and behind it the count of frames still to come.
+// Puts a frame of a series: the data, and after it the count of frames still to come.
 fn put_counted(message: Message, number: u8, data: &[u8], count: u8, out: &mut [u8], at: usize)
-    requires { ⌜ (length (now «data») ≤ 7) × (at + 13 ≤ length (now out)) ⌝ }
+    requires { ⌜ (length (now «data») ≤ partSize) × (at + frameSize ≤ length (now out)) ⌝ }
     ensures { λ _. ⌜ now (out .exit) ≡ sets (now (out .entry)) at (frame (identifier number message) (now («data» .entry) ++ (count ∷ []))) ⌝ }
 {
     let used = data.len() + 1;
     put_head(message, number, used as u8, out, at);
-    copy(data, out, at + 5);
+    message_output::put(data, &mut out[at + 5..]);
     out[at + 4 + used] = count;
-    put_zeros(out, at + 5 + used, 8 - used);
+    put_zeros(out, at + 5 + used, DATA - used);
 }
 
 // Puts a frame that stands alone over the start of out.
 fn put_single(message: Message, number: u8, payload: &[u8], out: &mut [u8])
-    requires { ⌜ (length (now payload) ≤ 8) × (13 ≤ length (now out)) ⌝ }
+    requires { ⌜ (length (now payload) ≤ dataSize) × (frameSize ≤ length (now out)) ⌝ }
     ensures { λ _. ⌜ now (out .exit) ≡ sets (now (out .entry)) 0 (frame (identifier number message) (now (payload .entry))) ⌝ }
 {
     let used = payload.len();
     put_head(message, number, used as u8, out, 0);
-    copy(payload, out, 5);
-    put_zeros(out, 5 + used, 8 - used);
+    message_output::put(payload, &mut out[5..]);
+    put_zeros(out, 5 + used, DATA - used);
 }
 
 // Puts the identifier and the DLC.
@@ -161,17 +155,10 @@ fn written_id(message: Message) -> u8
     ensures { λ r. ⌜ r ≡ cond (isEvent (message .kind)) 255 (message .id) ⌝ }
 {
     let kind = message.kind;
-    if is_event(kind) { 255 } else { message.id }
-}
-
-fn copy(bytes: &[u8], out: &mut [u8], at: usize)
-    requires { ⌜ at + length (now bytes) ≤ length (now out) ⌝ }
-    ensures { λ _. ⌜ now (out .exit) ≡ sets (now (out .entry)) at (now (bytes .entry)) ⌝ }
-{
-    let mut i = 0;
-    while i < bytes.len() {
-        out[at + i] = bytes[i];
-        i += 1;
+    if message_fields::is_event(kind) {
+        255
+    } else {
+        message.id
     }
 }
 

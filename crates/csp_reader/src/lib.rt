@@ -1,58 +1,42 @@
-// Reading messages from the data of a CSP packet. The rules are `csp`'s.
+// Reading messages from the data of a CSP packet. The rules are `csp_rules`'s.
 //
 // Everything is decided before the first byte is stored, so a refusal leaves the lent output as it came.
 ghost use mathlib.Core.Path.{_≡_};
 ghost use lib.ListN.{getD};
-ghost use Rattle.message.specs.Answer.{readTold, within, counted, laid, given};
-ghost use Rattle.message.specs.Body.{bodyRead};
-ghost use Rattle.message.specs.Kinds.{typeKind};
-ghost use Rattle.csp.specs.Csp.{cspRead};
-use message::ErrorByte;
-use message::Kind;
-use message::Message;
-use message::ReadAnswer;
-use message::Refusal;
-use message::TypeKind;
-use message::Verdict;
-use message::WriteAnswer;
+ghost use Rattle.message_rules.specs.Answer.{readResult, within, counted, outputAfter, given};
+ghost use Rattle.message_rules.specs.Data.{dataRead};
+ghost use Rattle.csp_rules.specs.Csp.{cspRead};
+use message_rules::ErrorByte;
+use message_rules::Kind;
+use message_rules::KindLookup;
+use message_rules::Message;
+use message_rules::ReadAnswer;
+use message_rules::Refusal;
+use message_rules::Verdict;
+use message_rules::WriteAnswer;
 
 // Reads a message; its payload goes to the start of out.
 pub fn read(bytes: &[u8], out: &mut [u8]) -> ReadAnswer
-    ensures { λ r. ⌜ readTold r ≡ counted (within (now (out .entry)) (cspRead (now (bytes .entry)))) ⌝ }
-    ensures { λ _. ⌜ now (out .exit) ≡ laid (within (now (out .entry)) (cspRead (now (bytes .entry)))) (now (out .entry)) ⌝ }
+    ensures { λ r. ⌜ readResult r ≡ counted (within (now (out .entry)) (cspRead (now (bytes .entry)))) ⌝ }
+    ensures { λ _. ⌜ now (out .exit) ≡ outputAfter (within (now (out .entry)) (cspRead (now (bytes .entry)))) (now (out .entry)) ⌝ }
 {
     if bytes.len() < 2 {
         return ReadAnswer::Refused(Refusal::Truncated);
     }
     let id = bytes[1];
-    match type_kind(bytes[0]) {
-        TypeKind::Unknown => ReadAnswer::Refused(Refusal::UnknownStart),
-        TypeKind::Known(kind) => read_body(kind, id, &bytes[2..], out),
-    }
-}
-
-// The kind of one of the types 1..6.
-fn type_kind(number: u8) -> TypeKind
-    ensures { λ r. ⌜ r ≡ typeKind number ⌝ }
-{
-    match number {
-        1 => TypeKind::Known(Kind::Telecommand),
-        2 => TypeKind::Known(Kind::TelecommandAck),
-        3 => TypeKind::Known(Kind::TelecommandNack),
-        4 => TypeKind::Known(Kind::TelemetryRequest),
-        5 => TypeKind::Known(Kind::TelemetryResponse),
-        6 => TypeKind::Known(Kind::TelemetryNack),
-        _ => TypeKind::Unknown,
+    match message_fields::type_kind(bytes[0]) {
+        KindLookup::Unknown => ReadAnswer::Refused(Refusal::UnknownStart),
+        KindLookup::Known(kind) => read_data(kind, id, &bytes[2..], out),
     }
 }
 
 // Reads from the data on.
-fn read_body(kind: Kind, id: u8, body: &[u8], out: &mut [u8]) -> ReadAnswer
-    ensures { λ r. ⌜ readTold r ≡ counted (within (now (out .entry)) (bodyRead kind id 0 0 (now (body .entry)))) ⌝ }
-    ensures { λ _. ⌜ now (out .exit) ≡ laid (within (now (out .entry)) (bodyRead kind id 0 0 (now (body .entry)))) (now (out .entry)) ⌝ }
+fn read_data(kind: Kind, id: u8, data: &[u8], out: &mut [u8]) -> ReadAnswer
+    ensures { λ r. ⌜ readResult r ≡ counted (within (now (out .entry)) (dataRead kind id 0 0 (now («data» .entry)))) ⌝ }
+    ensures { λ _. ⌜ now (out .exit) ≡ outputAfter (within (now (out .entry)) (dataRead kind id 0 0 (now («data» .entry)))) (now (out .entry)) ⌝ }
 {
-    let error = ErrorByte::Told(byte_or_zero(body, 0));
-    let index = byte_or_zero(body, 1);
+    let error = ErrorByte::Told(byte_or_zero(data, 0));
+    let index = byte_or_zero(data, 1);
     let raw = Message {
         kind,
         id,
@@ -61,12 +45,12 @@ fn read_body(kind: Kind, id: u8, body: &[u8], out: &mut [u8]) -> ReadAnswer
         error,
         index,
     };
-    let message = fields::carried(raw);
-    match checks::check_body(message, body.len()) {
+    let message = message_fields::error_fields_carried(raw);
+    match message_checks::check_data(message, data.len()) {
         Verdict::Refused(refusal) => ReadAnswer::Refused(refusal),
         Verdict::Passed => {
-            let payload = kinds::error_length(kind);
-            read_payload(message, &body[payload..], out)
+            let payload = message_fields::error_length(kind);
+            read_payload(message, &data[payload..], out)
         }
     }
 }
@@ -78,10 +62,10 @@ fn byte_or_zero(bytes: &[u8], at: usize) -> u8
 }
 
 fn read_payload(message: Message, payload: &[u8], out: &mut [u8]) -> ReadAnswer
-    ensures { λ r. ⌜ readTold r ≡ counted (within (now (out .entry)) (given message (now (payload .entry)))) ⌝ }
-    ensures { λ _. ⌜ now (out .exit) ≡ laid (within (now (out .entry)) (given message (now (payload .entry)))) (now (out .entry)) ⌝ }
+    ensures { λ r. ⌜ readResult r ≡ counted (within (now (out .entry)) (given message (now (payload .entry)))) ⌝ }
+    ensures { λ _. ⌜ now (out .exit) ≡ outputAfter (within (now (out .entry)) (given message (now (payload .entry)))) (now (out .entry)) ⌝ }
 {
-    match output::lay(payload, out) {
+    match message_output::put(payload, out) {
         WriteAnswer::Refused(refusal) => ReadAnswer::Refused(refusal),
         WriteAnswer::Length(n) => ReadAnswer::Message(message, n),
     }

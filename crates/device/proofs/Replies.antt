@@ -5,17 +5,17 @@ use mathlib.Core.List.{List, []}
 use mathlib.Core.Path.{_≡_, refl}
 use native.Mathlib.Omega.{arith}
 use lib.ListN.{length}
-use Rattle.message.specs.Answer.{Answer, refused, given, number, within, counted, laid, writeTold, about}
-use Rattle.message.specs.declared.Kind.{Kind}
-use Rattle.message.specs.declared.Message.{Message}
-use Rattle.message.specs.declared.Refusal.{Refusal}
-use Rattle.message.specs.declared.WriteAnswer.the-variants as WriteAnswer·of
-use Rattle.message.proofs.Answers.{long-enough, within-about}
-use Rattle.link.specs.Link.{linkRead, linkWrite}
+use Rattle.message_rules.specs.Answer.{Answer, refused, given, number, within, counted, outputAfter, writeResult, about}
+use Rattle.message_rules.specs.declared.Kind.{Kind}
+use Rattle.message_rules.specs.declared.Message.{Message}
+use Rattle.message_rules.specs.declared.Refusal.{Refusal}
+use Rattle.message_rules.specs.declared.WriteAnswer.the-variants as WriteAnswer·of
+use Rattle.message_rules.proofs.Answers.{long-enough, within-about}
+use Rattle.link_rules.specs.Link.{linkRead, linkWrite}
 use Rattle.device_rules.specs.declared.Device.{Device}
 use Rattle.device_rules.specs.declared.Fault.{Fault}
 use Rattle.device_rules.specs.Commands.{afterCommand}
-use Rattle.device_rules.specs.Answers.{receiveTold, afterReceive}
+use Rattle.device_rules.specs.Answers.{receiveResult, afterReceive}
 use Rattle.device_rules.specs.Receive.{Reply, answers, silent, commandAnswer, commandReply, isTaken, silence, kindReply, messageReply, receive}
 use Rattle.device_rules.specs.declared.Outcome.the-variants as Outcome·of
 use Rattle.device_rules.specs.declared.Received.{Received}
@@ -23,15 +23,15 @@ use Rattle.device_rules.specs.declared.Received.{Received}
 -- What a call owes of a reply: what it tells, the unit and the output.
 abbrev pub Gives : Device → List ℕ → Answer Reply (List ℕ) → Received → List ℕ → Type 0
 Gives d out x r out′ =
-    (receiveTold (r .outcome) (r .device) ≡ counted (within out x)) × ((r .device ≡ afterReceive d (within out x)) × (out′ ≡ laid (within out x) out))
+    (receiveResult (r .outcome) (r .device) ≡ counted (within out x)) × ((r .device ≡ afterReceive d (within out x)) × (out′ ≡ outputAfter (within out x) out))
 
 -- A reply that is equal to one that was given.
 pub equal-gives : (d : Device) (out : List ℕ) (x y : Answer Reply (List ℕ)) (r : Received) (out′ : List ℕ) → x ≡ y → Gives d out y r out′ → Gives d out x r out′
 equal-gives d out x y r out′ e g = rw e g
 
 pub silence-gives : (d : Device) (out : List ℕ) (x : Answer Reply (List ℕ)) (r : Received) → (r .device ≡ d) × (r .outcome ≡ Outcome·of.Silent) → x ≡ silence d → Gives d out x r out
-unfolding receiveTold afterReceive counted laid
-silence-gives d out x r told e = rw (e, long-enough out (silent d) [] (omega arith), told .0, told .1) (refl, (refl, refl))
+unfolding receiveResult afterReceive counted outputAfter
+silence-gives d out x r says e = rw (e, long-enough out (silent d) [] (omega arith), says .0, says .1) (refl, (refl, refl))
 
 pub by-kind : (k k′ : Kind) (d : Device) (store : ℕ) (m : Message) (p : List ℕ) → k ≡ k′ → kindReply k d store m p ≡ kindReply k′ d store m p
 by-kind k k′ d store m p e = rw e
@@ -54,23 +54,23 @@ command-reply d m p f f′ next answer e done same = rw (done, same, e)
 
 -- What a writer answered, told with the unit.
 module _ (d next : Device) (out out′ : List ℕ) where
-  answer-told : (n : ℕ) (y : Answer Unit (List ℕ)) → given tt n ≡ counted y → out′ ≡ laid y out
-      → (given (answers next) n ≡ counted (about (answers next) y)) × ((next ≡ afterReceive d (about (answers next) y)) × (out′ ≡ laid (about (answers next) y) out))
-  unfolding counted laid about afterReceive
-  answer-told n (refused k) told left = absurd (let z : _≡_ {A = ℕ} 0 1 = cc in omega arith)
-  answer-told n (given u b) told left = let same : n ≡ length b = cc in (rw same, (refl, left))
+  answer-told : (n : ℕ) (y : Answer Unit (List ℕ)) → given tt n ≡ counted y → out′ ≡ outputAfter y out
+      → (given (answers next) n ≡ counted (about (answers next) y)) × ((next ≡ afterReceive d (about (answers next) y)) × (out′ ≡ outputAfter (about (answers next) y) out))
+  unfolding counted outputAfter about afterReceive
+  answer-told n (refused k) says left = absurd (let z : _≡_ {A = ℕ} 0 1 = cc in omega arith)
+  answer-told n (given u b) says left = let same : n ≡ length b = cc in (rw same, (refl, left))
 
-  refusal-told : (n : ℕ) (y : Answer Unit (List ℕ)) → refused n ≡ counted y → out′ ≡ laid y out
-      → (refused n ≡ counted (about (answers next) y)) × ((d ≡ afterReceive d (about (answers next) y)) × (out′ ≡ laid (about (answers next) y) out))
-  unfolding counted laid about afterReceive
-  refusal-told n (refused k) told left = let same : n ≡ k = cc in (rw same, (refl, left))
-  refusal-told n (given u b) told left = absurd (let z : _≡_ {A = ℕ} 0 1 = cc in omega arith)
+  refusal-told : (n : ℕ) (y : Answer Unit (List ℕ)) → refused n ≡ counted y → out′ ≡ outputAfter y out
+      → (refused n ≡ counted (about (answers next) y)) × ((d ≡ afterReceive d (about (answers next) y)) × (out′ ≡ outputAfter (about (answers next) y) out))
+  unfolding counted outputAfter about afterReceive
+  refusal-told n (refused k) says left = let same : n ≡ k = cc in (rw same, (refl, left))
+  refusal-told n (given u b) says left = absurd (let z : _≡_ {A = ℕ} 0 1 = cc in omega arith)
 
-  module _ (x : Answer Unit (List ℕ)) (left : out′ ≡ laid (within out x) out) where
-    pub answer-gives : (n : ℕ) → writeTold (WriteAnswer·of.Length n) ≡ counted (within out x) → Gives d out (about (answers next) x) (record { device = next; outcome = Outcome·of.Answer n }) out′
-    unfolding receiveTold writeTold
-    answer-gives n told = rw (within-about (answers next) out x) (answer-told n (within out x) told left)
+  module _ (x : Answer Unit (List ℕ)) (left : out′ ≡ outputAfter (within out x) out) where
+    pub answer-gives : (n : ℕ) → writeResult (WriteAnswer·of.Length n) ≡ counted (within out x) → Gives d out (about (answers next) x) (record { device = next; outcome = Outcome·of.Answer n }) out′
+    unfolding receiveResult writeResult
+    answer-gives n says = rw (within-about (answers next) out x) (answer-told n (within out x) says left)
 
-    pub refusal-gives : (r : Refusal) → writeTold (WriteAnswer·of.Refused r) ≡ counted (within out x) → Gives d out (about (answers next) x) (record { device = d; outcome = Outcome·of.Refused r }) out′
-    unfolding receiveTold writeTold
-    refusal-gives r told = rw (within-about (answers next) out x) (refusal-told (number r) (within out x) told left)
+    pub refusal-gives : (r : Refusal) → writeResult (WriteAnswer·of.Refused r) ≡ counted (within out x) → Gives d out (about (answers next) x) (record { device = d; outcome = Outcome·of.Refused r }) out′
+    unfolding receiveResult writeResult
+    refusal-gives r says = rw (within-about (answers next) out x) (refusal-told (number r) (within out x) says left)

@@ -9,5 +9,5 @@ pub use device_rules::Received;
 pub use device_rules::Transfer;
 pub use device_rules::UnitAnswer;
 pub use device_state::make;
+pub use device_work::work;
 pub use receiver::receive;
-pub use work_step::work;

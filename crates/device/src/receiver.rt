@@ -2,30 +2,29 @@
 ghost use mathlib.Core.Bool.{cond};
 ghost use mathlib.Core.Path.{_≡_};
 ghost use lib.ListN.{length};
-ghost use Rattle.message.specs.Answer.{within, counted, laid, about};
-ghost use Rattle.link.specs.Link.{linkWrite};
+ghost use Rattle.message_rules.specs.Answer.{within, counted, outputAfter, about};
+ghost use Rattle.link_rules.specs.Link.{linkWrite};
 ghost use Rattle.device_rules.specs.Device.{isFinished};
-ghost use Rattle.device_rules.specs.Faults.{commandFault};
-ghost use Rattle.device_rules.specs.Answers.{receiveTold, afterReceive};
-ghost use Rattle.device_rules.specs.Receive.{isTaken, answerSource, answerTo, infoBytes, commandAnswer, commandReply, telemetryReply, kindReply, receive, answers};
+ghost use Rattle.device_rules.specs.Answers.{receiveResult, afterReceive};
+ghost use Rattle.device_rules.specs.Receive.{isTaken, answerSource, answerTo, infoBytes, commandAnswer, telecommandReply, telemetryReply, kindReply, receive, answers};
 use device_rules::Device;
 use device_rules::Fault;
 use device_rules::Outcome;
 use device_rules::Phase;
 use device_rules::Received;
 use device_rules::Transfer;
-use link::Link;
-use message::ErrorByte;
-use message::Kind;
-use message::Message;
-use message::ReadAnswer;
-use message::WriteAnswer;
+use link_rules::Link;
+use message_rules::ErrorByte;
+use message_rules::Kind;
+use message_rules::Message;
+use message_rules::ReadAnswer;
+use message_rules::WriteAnswer;
 
 // Takes bytes that arrived while a store is lent; an answer goes to the start of out.
 pub fn receive(device: Device, bytes: &[u8], store: &[u8], out: &mut [u8]) -> Received
-    ensures { λ r. ⌜ receiveTold (r .outcome) (r .device) ≡ counted (within (now (out .entry)) (receive device (length (now (store .entry))) (now (bytes .entry)))) ⌝ }
+    ensures { λ r. ⌜ receiveResult (r .outcome) (r .device) ≡ counted (within (now (out .entry)) (receive device (length (now (store .entry))) (now (bytes .entry)))) ⌝ }
     ensures { λ r. ⌜ r .device ≡ afterReceive device (within (now (out .entry)) (receive device (length (now (store .entry))) (now (bytes .entry)))) ⌝ }
-    ensures { λ _. ⌜ now (out .exit) ≡ laid (within (now (out .entry)) (receive device (length (now (store .entry))) (now (bytes .entry)))) (now (out .entry)) ⌝ }
+    ensures { λ _. ⌜ now (out .exit) ≡ outputAfter (within (now (out .entry)) (receive device (length (now (store .entry))) (now (bytes .entry)))) (now (out .entry)) ⌝ }
 {
     let link = device.link;
     let mut payload = [0u8; 256];
@@ -60,9 +59,9 @@ fn is_taken(link: Link, own: u8, message: Message) -> bool
 
 // The reply to a message for the unit, by its kind.
 fn reply(device: Device, store: usize, message: Message, payload: &[u8], out: &mut [u8]) -> Received
-    ensures { λ r. ⌜ receiveTold (r .outcome) (r .device) ≡ counted (within (now (out .entry)) (kindReply (message .kind) device store message (now (payload .entry)))) ⌝ }
+    ensures { λ r. ⌜ receiveResult (r .outcome) (r .device) ≡ counted (within (now (out .entry)) (kindReply (message .kind) device store message (now (payload .entry)))) ⌝ }
     ensures { λ r. ⌜ r .device ≡ afterReceive device (within (now (out .entry)) (kindReply (message .kind) device store message (now (payload .entry)))) ⌝ }
-    ensures { λ _. ⌜ now (out .exit) ≡ laid (within (now (out .entry)) (kindReply (message .kind) device store message (now (payload .entry)))) (now (out .entry)) ⌝ }
+    ensures { λ _. ⌜ now (out .exit) ≡ outputAfter (within (now (out .entry)) (kindReply (message .kind) device store message (now (payload .entry)))) (now (out .entry)) ⌝ }
 {
     let kind = message.kind;
     match kind {
@@ -83,11 +82,11 @@ fn command_reply(
     payload: &[u8],
     out: &mut [u8],
 ) -> Received
-    ensures { λ r. ⌜ receiveTold (r .outcome) (r .device) ≡ counted (within (now (out .entry)) (commandReply device message (now (payload .entry)) (commandFault device store (message .id) (now (payload .entry))))) ⌝ }
-    ensures { λ r. ⌜ r .device ≡ afterReceive device (within (now (out .entry)) (commandReply device message (now (payload .entry)) (commandFault device store (message .id) (now (payload .entry))))) ⌝ }
-    ensures { λ _. ⌜ now (out .exit) ≡ laid (within (now (out .entry)) (commandReply device message (now (payload .entry)) (commandFault device store (message .id) (now (payload .entry))))) (now (out .entry)) ⌝ }
+    ensures { λ r. ⌜ receiveResult (r .outcome) (r .device) ≡ counted (within (now (out .entry)) (telecommandReply device store message (now (payload .entry)))) ⌝ }
+    ensures { λ r. ⌜ r .device ≡ afterReceive device (within (now (out .entry)) (telecommandReply device store message (now (payload .entry)))) ⌝ }
+    ensures { λ _. ⌜ now (out .exit) ≡ outputAfter (within (now (out .entry)) (telecommandReply device store message (now (payload .entry)))) (now (out .entry)) ⌝ }
 {
-    let commanded = commands::carry_out(device, store, message.id, payload);
+    let commanded = device_commands::carry_out(device, store, message.id, payload);
     let next = commanded.device;
     let fault = commanded.fault;
     let answer = command_answer(device, message, fault);
@@ -106,9 +105,9 @@ fn command_answer(device: Device, request: Message, fault: Fault) -> Message
 }
 
 fn telemetry_reply(device: Device, message: Message, out: &mut [u8]) -> Received
-    ensures { λ r. ⌜ receiveTold (r .outcome) (r .device) ≡ counted (within (now (out .entry)) (telemetryReply device message)) ⌝ }
+    ensures { λ r. ⌜ receiveResult (r .outcome) (r .device) ≡ counted (within (now (out .entry)) (telemetryReply device message)) ⌝ }
     ensures { λ r. ⌜ r .device ≡ afterReceive device (within (now (out .entry)) (telemetryReply device message)) ⌝ }
-    ensures { λ _. ⌜ now (out .exit) ≡ laid (within (now (out .entry)) (telemetryReply device message)) (now (out .entry)) ⌝ }
+    ensures { λ _. ⌜ now (out .exit) ≡ outputAfter (within (now (out .entry)) (telemetryReply device message)) (now (out .entry)) ⌝ }
 {
     if message.id == 150 {
         let transfer = device.transfer;
@@ -122,9 +121,9 @@ fn telemetry_reply(device: Device, message: Message, out: &mut [u8]) -> Received
 
 // Writes an answer, with the unit as it is before and after it.
 fn send(before: Device, next: Device, answer: Message, payload: &[u8], out: &mut [u8]) -> Received
-    ensures { λ r. ⌜ receiveTold (r .outcome) (r .device) ≡ counted (within (now (out .entry)) (about (answers next) (linkWrite (before .link) answer (now (payload .entry))))) ⌝ }
+    ensures { λ r. ⌜ receiveResult (r .outcome) (r .device) ≡ counted (within (now (out .entry)) (about (answers next) (linkWrite (before .link) answer (now (payload .entry))))) ⌝ }
     ensures { λ r. ⌜ r .device ≡ afterReceive before (within (now (out .entry)) (about (answers next) (linkWrite (before .link) answer (now (payload .entry))))) ⌝ }
-    ensures { λ _. ⌜ now (out .exit) ≡ laid (within (now (out .entry)) (about (answers next) (linkWrite (before .link) answer (now (payload .entry))))) (now (out .entry)) ⌝ }
+    ensures { λ _. ⌜ now (out .exit) ≡ outputAfter (within (now (out .entry)) (about (answers next) (linkWrite (before .link) answer (now (payload .entry))))) (now (out .entry)) ⌝ }
 {
     let link = before.link;
     match link_writer::write(link, answer, payload, out) {
@@ -173,7 +172,7 @@ fn info_bytes(transfer: Transfer) -> [u8; 7]
     let length = device_state::frame_length(transfer);
     let number = little_endian::u16_to_bytes(transfer.number);
     let size = little_endian::u16_to_bytes(length as u16);
-    let sum = little_endian::u16_to_bytes(checksum::checksum(&buffer[..length]));
+    let sum = little_endian::u16_to_bytes(file_checksum::checksum(&buffer[..length]));
     let phase = transfer.phase;
     [
         number[0],

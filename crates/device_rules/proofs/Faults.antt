@@ -7,9 +7,9 @@ use native.Mathlib.Omega.{arith}
 use borrow.Author.Tests.{eq-eqb, ne-eqb, le-ltb}
 use lib.Dec.{eqb}
 use lib.ListN.{length, take}
-use Rattle.little_endian.specs.LittleEndian.{toBytes}
-use Rattle.little_endian.proofs.Laws.{to-length, from-to}
-use Rattle.file.specs.File.{frameCount}
+use Rattle.little_endian_rules.specs.LittleEndian.{toBytes}
+use Rattle.little_endian_rules.proofs.Laws.{to-length, from-to}
+use Rattle.file_rules.specs.File.{frameCount}
 use Rattle.device_rules.specs.Device.{isIdle, frame, withTransfer}
 use Rattle.device_rules.specs.declared.Device.{Device}
 use Rattle.device_rules.specs.declared.Transfer.{Transfer}

@@ -7,8 +7,8 @@ use native.Mathlib.Omega.{arith}
 use borrow.Author.Tests.{eq-eqb, ne-eqb, lt-ltb, le-ltb}
 use lib.Dec.{eqb}
 use lib.ListN.{length}
-use Rattle.little_endian.specs.LittleEndian.{fromBytes}
-use Rattle.file.specs.File.{sizeLegal}
+use Rattle.little_endian_rules.specs.LittleEndian.{fromBytes}
+use Rattle.file_rules.specs.File.{sizeLegal}
 use Rattle.device_rules.specs.Device.{isIdle, isOpen, isFinished}
 use Rattle.device_rules.specs.Commands.{newTransfer, transferDone, commandDone}
 use Rattle.device_rules.specs.Faults.{fault, setupFault, numberFault, takeFault, commandFault}

@@ -10,14 +10,14 @@ use borrow.Author.Tests.{leb-true, le-leb}
 use lib.Dec.{leb}
 use lib.ListN.{length, take, drop, replicate, length-append, length-drop, take-append-drop}
 use lib.Seq.{length-take-le, take-append-seam, drop-append-seam, drop-drop}
-use Rattle.message.specs.Answer.{refused, given, require, after, within, laid, written}
-use Rattle.message.specs.declared.Refusal.the-variants.{OutputTooShort}
-use Rattle.message.specs.declared.Verdict.{Verdict}
-use Rattle.message.specs.declared.Verdict.the-variants.{Passed, Refused}
-use Rattle.message.proofs.Answers.{long-enough}
-use Rattle.message.proofs.Checks.{both-true}
-use Rattle.device_rules.specs.Device.{frame, withTransfer, unitTold}
-use Rattle.device_rules.specs.Work.{frameStored, hasRoom, work, worked, afterWork, storeAfter}
+use Rattle.message_rules.specs.Answer.{refused, given, require, after, within, outputAfter, written}
+use Rattle.message_rules.specs.declared.Refusal.the-variants.{OutputTooShort}
+use Rattle.message_rules.specs.declared.Verdict.{Verdict}
+use Rattle.message_rules.specs.declared.Verdict.the-variants.{Passed, Refused}
+use Rattle.message_rules.proofs.Answers.{long-enough}
+use Rattle.message_rules.proofs.Checks.{both-true}
+use Rattle.device_rules.specs.Device.{frame, withTransfer, unitResult}
+use Rattle.device_rules.specs.Work.{frameStored, hasRoom, work, withoutBytes, afterWork, storeAfter}
 use Rattle.device_rules.specs.declared.Device.{Device}
 
 -- "The work step stores a pending frame after what is stored": the store then holds one frame more and is else as it was, and the unit waits
@@ -31,7 +31,7 @@ pub record Stored (d d′ : Device) (s s′ : List ℕ) : Type 0 where
   pub zeros : d′ .transfer .buffer ≡ replicate 256 0
   pub waits : d′ .transfer .pending ≡ false
 
--- A list that is laid behind the first bytes of another.
+-- A list that is put after the first bytes of another.
 seam : (at : ℕ) (s f r : List ℕ) → at ≤ length s → (take (at + length f) (take at s ++ (f ++ r)) ≡ take at s ++ f) × (drop (at + length f) (take at s ++ (f ++ r)) ≡ r)
 seam at s f r h =
     let size : length (take at s ++ f) ≡ at + length f = rw (length-append, length-take-le at s h) in
@@ -42,13 +42,13 @@ pub frame-stored : (d : Device) (s : List ℕ) → let t = d .transfer in t .pen
 unfolding work hasRoom frameStored frame afterWork storeAfter require after
 frame-stored d s pending long fits =
     let t = d .transfer in
-    let laid = seam (t .stored) s (frame t) (drop (t .stored + length (frame t)) s) (omega arith) in
+    let parts = seam (t .stored) s (frame t) (drop (t .stored + length (frame t)) s) (omega arith) in
     rw (le-leb (t .size) (length s) long, le-leb (t .stored + length (frame t)) (t .size) fits, pending)
-    (record { count = refl; holds = laid .0; rest = laid .1; number = refl; emptied = refl; zeros = refl; waits = refl })
+    (record { count = refl; holds = parts .0; rest = parts .1; number = refl; emptied = refl; zeros = refl; waits = refl })
 
 abbrev Gives : Device → List ℕ → Verdict → Device → List ℕ → Type 0
 Gives d s v d′ s′ =
-    (unitTold v d′ ≡ worked (work d (length s))) × ((d′ ≡ afterWork d (work d (length s))) × (s′ ≡ storeAfter d (work d (length s)) s))
+    (unitResult v d′ ≡ withoutBytes (work d (length s))) × ((d′ ≡ afterWork d (work d (length s))) × (s′ ≡ storeAfter d (work d (length s)) s))
 
 -- The step by its two tests.
 module _ (d : Device) (n : ℕ) where
@@ -66,11 +66,11 @@ module _ (d : Device) (n : ℕ) where
 
 module _ (d : Device) (s : List ℕ) where
   pub idle-gives : d .transfer .pending ≡ false → Gives d s Passed d s
-  unfolding unitTold worked afterWork storeAfter
+  unfolding unitResult withoutBytes afterWork storeAfter
   idle-gives h = rw (rests d (length s) h, add-zero) (refl, (refl, sym (take-append-drop (d .transfer .stored) s)))
 
   pub short-gives : d .transfer .pending ≡ true → hasRoom (d .transfer) (length s) ≡ false → Gives d s (Refused OutputTooShort) d s
-  unfolding unitTold worked afterWork storeAfter
+  unfolding unitResult withoutBytes afterWork storeAfter
   short-gives h k = rw (short d (length s) h k) (refl, (refl, refl))
 
   pub room : hasRoom (d .transfer) (length s) ≡ true → (d .transfer .size ≤ length s) × (d .transfer .stored + length (frame (d .transfer)) ≤ d .transfer .size)
@@ -80,11 +80,11 @@ module _ (d : Device) (s : List ℕ) where
       let b = both-true (leb (t .size) (length s)) (leb (t .stored + length (frame t)) (t .size)) h in
       (leb-true _ _ (b .0), leb-true _ _ (b .1))
 
-  -- A frame laid behind what is stored.
+  -- A frame that goes after what is stored.
   pub stored-gives : (part : List ℕ) → d .transfer .pending ≡ true → hasRoom (d .transfer) (length s) ≡ true
-      → part ≡ laid (within (drop (d .transfer .stored) s) (written (frame (d .transfer)))) (drop (d .transfer .stored) s)
+      → part ≡ outputAfter (within (drop (d .transfer .stored) s) (written (frame (d .transfer)))) (drop (d .transfer .stored) s)
       → Gives d s Passed (withTransfer d (frameStored (d .transfer))) (take (d .transfer .stored) s ++ part)
-  unfolding unitTold worked afterWork storeAfter laid
+  unfolding unitResult withoutBytes afterWork storeAfter outputAfter
   stored-gives part h k left =
       let t = d .transfer in
       let fits : length (frame t) ≤ length (drop (t .stored) s) = rw length-drop (omega (arith, room k)) in

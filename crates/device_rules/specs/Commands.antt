@@ -4,7 +4,7 @@ use mathlib.Core.Bool.{true, false, cond}
 use mathlib.Core.List.{List, _++_}
 use lib.Dec.{eqb}
 use lib.ListN.{length, drop}
-use Rattle.little_endian.specs.LittleEndian.{fromBytes}
+use Rattle.little_endian_rules.specs.LittleEndian.{fromBytes}
 use Rattle.device_rules.specs.Device.{emptyBuffer, noTransfer, withTransfer}
 use Rattle.device_rules.specs.declared.Device.{Device}
 use Rattle.device_rules.specs.declared.Transfer.{Transfer}

@@ -4,10 +4,10 @@ use mathlib.Core.Bool.{Bool, true, false, cond}
 use mathlib.Core.List.{List}
 use lib.Dec.{eqb}
 use lib.ListN.{take, replicate}
-use Rattle.message.specs.Answer.{Answer, refused, given, number}
-use Rattle.message.specs.declared.Verdict.{Verdict}
-use Rattle.message.specs.declared.Verdict.the-variants as Verdict·of
-use Rattle.link.specs.declared.Link.{Link}
+use Rattle.message_rules.specs.Answer.{Answer, refused, given, number}
+use Rattle.message_rules.specs.declared.Verdict.{Verdict}
+use Rattle.message_rules.specs.declared.Verdict.the-variants as Verdict·of
+use Rattle.link_rules.specs.declared.Link.{Link}
 use Rattle.device_rules.specs.declared.Device.{Device}
 use Rattle.device_rules.specs.declared.Transfer.{Transfer}
 use Rattle.device_rules.specs.declared.Phase.{Phase}
@@ -63,6 +63,6 @@ unfoldable pub make : Link → ℕ → Answer Device Unit
 make l own = cond (eqb own 0) (refused 7) (given (newDevice l own) tt)
 
 -- What the code's answer says, of making a unit and of the work step (document 01, "Forms we want to see": "this paper's number and values for each case").
-unfoldable pub unitTold : Verdict → Device → Answer Device Unit
-unitTold Verdict·of.Passed d = given d tt
-unitTold (Verdict·of.Refused r) d = refused (number r)
+unfoldable pub unitResult : Verdict → Device → Answer Device Unit
+unitResult Verdict·of.Passed d = given d tt
+unitResult (Verdict·of.Refused r) d = refused (number r)

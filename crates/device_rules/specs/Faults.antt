@@ -4,8 +4,8 @@ use mathlib.Core.Bool.{Bool, true, false, cond, not, _||_}
 use mathlib.Core.List.{List}
 use lib.Dec.{ltb, eqb}
 use lib.ListN.{length}
-use Rattle.little_endian.specs.LittleEndian.{fromBytes}
-use Rattle.file.specs.File.{sizeLegal}
+use Rattle.little_endian_rules.specs.LittleEndian.{fromBytes}
+use Rattle.file_rules.specs.File.{sizeLegal}
 use Rattle.device_rules.specs.Device.{isIdle, isOpen, isFinished, frame}
 use Rattle.device_rules.specs.declared.Device.{Device}
 use Rattle.device_rules.specs.declared.Transfer.{Transfer}

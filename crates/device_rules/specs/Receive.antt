@@ -4,16 +4,16 @@ use mathlib.Core.Bool.{Bool, true, cond, _||_}
 use mathlib.Core.List.{List, [], _∷_, _++_}
 use lib.Dec.{eqb}
 use lib.ListN.{length}
-use Rattle.message.specs.Answer.{Answer, refused, given, about}
-use Rattle.message.specs.declared.ErrorByte.the-variants.{Told}
-use Rattle.message.specs.declared.Kind.{Kind}
-use Rattle.message.specs.declared.Kind.the-variants as Kind·of
-use Rattle.message.specs.declared.Message.{Message}
-use Rattle.little_endian.specs.LittleEndian.{toBytes}
-use Rattle.checksum.specs.Checksum.{checksum}
-use Rattle.link.specs.Link.{linkRead, linkWrite}
-use Rattle.link.specs.declared.Link.{Link}
-use Rattle.link.specs.declared.Link.the-variants.{Uart, Rs485, Can, Csp}
+use Rattle.message_rules.specs.Answer.{Answer, refused, given, about}
+use Rattle.message_rules.specs.declared.ErrorByte.the-variants.{Told}
+use Rattle.message_rules.specs.declared.Kind.{Kind}
+use Rattle.message_rules.specs.declared.Kind.the-variants as Kind·of
+use Rattle.message_rules.specs.declared.Message.{Message}
+use Rattle.little_endian_rules.specs.LittleEndian.{toBytes}
+use Rattle.file_rules.specs.Checksum.{checksum}
+use Rattle.link_rules.specs.Link.{linkRead, linkWrite}
+use Rattle.link_rules.specs.declared.Link.{Link}
+use Rattle.link_rules.specs.declared.Link.the-variants.{Uart, Rs485, Can, Csp}
 use Rattle.device_rules.specs.Device.{isFinished, frame}
 use Rattle.device_rules.specs.declared.Device.{Device}
 use Rattle.device_rules.specs.declared.Transfer.{Transfer}
@@ -66,6 +66,10 @@ commandAnswer d m (Nack e i) = answerTo d m Kind·of.TelecommandNack e i
 unfoldable pub commandReply : Device → Message → List ℕ → Fault → Answer Reply (List ℕ)
 commandReply d m p f = about (answers (afterCommand d (m .id) p f)) (linkWrite (d .link) (commandAnswer d m f) [])
 
+-- What a telecommand comes to, while a store of so many bytes is lent: its fault is the table's.
+abbrev pub telecommandReply : Device → ℕ → Message → List ℕ → Answer Reply (List ℕ)
+telecommandReply d store m p = commandReply d m p (commandFault d store (m .id) p)
+
 -- "150 frame info | request | never." "Any other ID: error 1."
 unfoldable pub telemetryReply : Device → Message → Answer Reply (List ℕ)
 telemetryReply d m =
@@ -75,7 +79,7 @@ telemetryReply d m =
 
 -- "Kinds other than tc and tlmreq get no answer."
 unfoldable pub kindReply : Kind → Device → ℕ → Message → List ℕ → Answer Reply (List ℕ)
-kindReply Kind·of.Telecommand d store m p = commandReply d m p (commandFault d store (m .id) p)
+kindReply Kind·of.Telecommand d store m p = telecommandReply d store m p
 kindReply Kind·of.TelecommandAck d store m p = silence d
 kindReply Kind·of.TelecommandNack d store m p = silence d
 kindReply Kind·of.TelemetryRequest d store m p = telemetryReply d m

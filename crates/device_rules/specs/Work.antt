@@ -1,10 +1,10 @@
--- The work step (document 01, "The unit"): the unit afterwards, and the bytes that are laid over the store behind what is stored.
+-- The work step (document 01, "The unit"): the unit afterwards, and the bytes that go after what is stored.
 use Prim.Native.Nat.{ℕ, _+_, _%_}
 use mathlib.Core.Bool.{Bool, false, cond, _&&_}
 use mathlib.Core.List.{List, [], _++_}
 use lib.Dec.{leb, eqb}
 use lib.ListN.{length, take, drop}
-use Rattle.message.specs.Answer.{Answer, refused, given, number, passed, require, after}
+use Rattle.message_rules.specs.Answer.{Answer, refused, given, number, passed, require, after}
 use Rattle.device_rules.specs.Device.{frame, emptyBuffer, withTransfer}
 use Rattle.device_rules.specs.declared.Device.{Device}
 use Rattle.device_rules.specs.declared.Transfer.{Transfer}
@@ -36,15 +36,15 @@ work d store =
     (after (require (hasRoom (d .transfer) store) 8 passed) (given (withTransfer d (frameStored (d .transfer))) (frame (d .transfer))))
     (given d [])
 
--- "Nothing but storing changes a byte of the store": the bytes go behind what was stored.
+-- "Nothing but storing changes a byte of the store": the bytes go after what was stored.
 unfoldable pub storeAfter : Device → Answer Device (List ℕ) → List ℕ → List ℕ
 storeAfter d (refused n) s = s
 storeAfter d (given d′ b) s = take (d .transfer .stored) s ++ (b ++ drop (d .transfer .stored + length b) s)
 
 -- The unit alone, without the bytes.
-unfoldable pub worked : Answer Device (List ℕ) → Answer Device Unit
-worked (refused n) = refused n
-worked (given d b) = given d tt
+unfoldable pub withoutBytes : Answer Device (List ℕ) → Answer Device Unit
+withoutBytes (refused n) = refused n
+withoutBytes (given d b) = given d tt
 
 -- The unit afterwards. "Nothing moves" where it is refused.
 unfoldable pub afterWork : Device → Answer Device (List ℕ) → Device

@@ -3,9 +3,9 @@
 //
 // The rules are definitions of `specs/`: `Device` (the state, and a unit at first), `Faults` (why a command is not carried out), `Commands` (what
 // it does when it is), `Work` (the work step), `Receive` and `Answers` (bytes that arrive). Demand 3 is proved of these; the code stands above.
-use link::Link;
-use message::Refusal;
-use message::Verdict;
+use link_rules::Link;
+use message_rules::Refusal;
+use message_rules::Verdict;
 
 // Document 01's "idle, open or finished".
 pub enum Phase {

@@ -1,14 +1,14 @@
 // A unit at first, without a transfer, and the frame that a transfer's buffer holds.
 ghost use mathlib.Core.Path.{_≡_};
 ghost use lib.ListN.{length};
-ghost use Rattle.device_rules.specs.Device.{frame, noTransfer, newDevice, make, unitTold};
+ghost use Rattle.device_rules.specs.Device.{frame, noTransfer, newDevice, make, unitResult};
 use device_rules::Device;
 use device_rules::Phase;
 use device_rules::Transfer;
 use device_rules::UnitAnswer;
-use link::Link;
-use message::Refusal;
-use message::Verdict;
+use link_rules::Link;
+use message_rules::Refusal;
+use message_rules::Verdict;
 
 // How many bytes the frame in the buffer has.
 pub fn frame_length(transfer: Transfer) -> usize
@@ -38,7 +38,7 @@ pub fn no_transfer() -> Transfer
 
 // A unit at first, with its own address. Where that is 0 it is refused, and the unit beside the refusal is of no use.
 pub fn make(link: Link, own: u8) -> UnitAnswer
-    ensures { λ r. ⌜ unitTold (r .verdict) (r .device) ≡ make link own ⌝ }
+    ensures { λ r. ⌜ unitResult (r .verdict) (r .device) ≡ make link own ⌝ }
     ensures { λ r. ⌜ r .device ≡ newDevice link own ⌝ }
 {
     let transfer = no_transfer();

@@ -5,9 +5,9 @@ ghost use Prim.Native.Nat.{_≤_};
 ghost use mathlib.Core.Path.{_≡_};
 ghost use lib.ListN.{length, take};
 ghost use Rattle.io.specs.Counts.{Counts};
-ghost use Rattle.listing.specs.Listing.{listing, longest};
+ghost use Rattle.listing_rules.specs.Listing.{listing, longest};
 use libc::STDOUT_FILENO;
-use message::WriteAnswer;
+use message_rules::WriteAnswer;
 
 // One byte more than may be listed, so that a longer input is seen.
 const INPUT: usize = 65537;
@@ -30,7 +30,7 @@ fn listed(bytes: &[u8], out: &mut [u8]) -> usize
     ensures { λ r. ⌜ Counts r (now (out .exit)) ⌝ }
     ensures { λ r. ⌜ take r (now (out .exit)) ≡ listing (now (bytes .entry)) ⌝ }
 {
-    match lister::list(bytes, out) {
+    match listing_writer::list(bytes, out) {
         WriteAnswer::Length(n) => n,
         WriteAnswer::Refused(_) => 0,
     }

@@ -1,15 +1,15 @@
-// Reading a message on any of the four links. The rule is link's `specs/Link.antt`.
+// Reading a message on any of the four links. The rule is `specs/Link.antt` of `link_rules`.
 ghost use mathlib.Core.Path.{_≡_};
-ghost use Rattle.message.specs.Answer.{readTold, within, counted, laid};
-ghost use Rattle.link.specs.Link.{linkRead};
-use link::Link;
-use message::ReadAnswer;
-use serial::SerialLink;
+ghost use Rattle.message_rules.specs.Answer.{readResult, within, counted, outputAfter};
+ghost use Rattle.link_rules.specs.Link.{linkRead};
+use link_rules::Link;
+use message_rules::ReadAnswer;
+use serial_rules::SerialLink;
 
 // Reads a message; its payload goes to the start of out.
 pub fn read(link: Link, bytes: &[u8], out: &mut [u8]) -> ReadAnswer
-    ensures { λ r. ⌜ readTold r ≡ counted (within (now (out .entry)) (linkRead link (now (bytes .entry)))) ⌝ }
-    ensures { λ _. ⌜ now (out .exit) ≡ laid (within (now (out .entry)) (linkRead link (now (bytes .entry)))) (now (out .entry)) ⌝ }
+    ensures { λ r. ⌜ readResult r ≡ counted (within (now (out .entry)) (linkRead link (now (bytes .entry)))) ⌝ }
+    ensures { λ _. ⌜ now (out .exit) ≡ outputAfter (within (now (out .entry)) (linkRead link (now (bytes .entry)))) (now (out .entry)) ⌝ }
 {
     match link {
         Link::Uart => serial_reader::read(SerialLink::Uart, bytes, out),

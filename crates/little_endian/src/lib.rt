@@ -1,7 +1,7 @@
-// Numbers of several bytes, little endian: the widths that the protocol uses.
+// Numbers of several bytes, little endian: the widths that the protocol uses. The rules are `little_endian_rules`.
 ghost use mathlib.Core.Path.{_≡_};
 ghost use mathlib.Core.List.{[], _∷_};
-ghost use Rattle.little_endian.specs.LittleEndian.{fromBytes, toBytes};
+ghost use Rattle.little_endian_rules.specs.LittleEndian.{fromBytes, toBytes};
 
 pub fn u16_from_bytes(b0: u8, b1: u8) -> u16
     ensures { λ r. ⌜ r ≡ fromBytes (b0 ∷ b1 ∷ []) ⌝ }

@@ -4,13 +4,13 @@ use mathlib.Core.Bool.{Bool, true, not, _||_}
 use mathlib.Core.List.{List}
 use mathlib.Core.Path.{_≡_}
 use lib.Dec.{eqb}
-use Rattle.message.specs.Answer.{passed, verdictTold}
+use Rattle.message_rules.specs.Answer.{passed, verdictResult}
 use Rattle.device_rules.specs.declared.Device.{Device}
 use Rattle.round_rules.specs.Rounds.{nothingSent, roundsMade, roundsRefusal}
 use Rattle.round_rules.specs.Requester.{isRunning}
 use Rattle.round_rules.specs.World.{World, isFailed}
-use Rattle.upload.specs.Sending.{sending}
-use Rattle.upload.specs.declared.Sender.{Sender}
+use Rattle.sender_rules.specs.Sending.{sending}
+use Rattle.sender_rules.specs.declared.Sender.{Sender}
 use Rattle.rehearse.specs.Course.{roundsOf}
 use Rattle.rehearse.specs.declared.course.Course.{Course}
 use Rattle.rehearse.specs.declared.run.Ran.{Ran}
@@ -25,10 +25,10 @@ pub record Leaves (file : List ℕ) (d : Device) (store : List ℕ) (s : Sender)
   pub unit : r .device ≡ madeBy file d store s c (r .count) .device
   pub asking : r .sender ≡ madeBy file d store s c (r .count) .requester
   pub kept : stored ≡ madeBy file d store s c (r .count) .store
-  pub refusal : verdictTold (r .verdict) ≡ roundsRefusal (sending file) (nothingSent d store s) (roundsOf c (r .count))
+  pub refusal : verdictResult (r .verdict) ≡ roundsRefusal (sending file) (nothingSent d store s) (roundsOf c (r .count))
   pub earlier : roundsRefusal (sending file) (nothingSent d store s) (roundsOf c (r .count - 1)) ≡ passed
   pub ran : 1 ≤ r .count → isRunning (madeBy file d store s c (r .count - 1) .requester .state) ≡ true
 
 -- No round is left to make: the last was refused, or the sender has ended, or there were 200 for each of 65,535 frames.
 unfoldable pub over : Ran → Bool
-over r = isFailed (verdictTold (r .verdict)) || (not (isRunning (r .sender .state)) || eqb (r .count) 13107000)
+over r = isFailed (verdictResult (r .verdict)) || (not (isRunning (r .sender .state)) || eqb (r .count) 13107000)

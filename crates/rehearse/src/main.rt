@@ -8,9 +8,9 @@ mod rehearsal;
 mod run;
 mod space;
 
-use digits::NumberAnswer;
 use input::Input;
-use link::Link;
+use link_rules::Link;
+use text_rules::NumberAnswer;
 
 // One byte more than a file may have, so that a file too long can be tried.
 const LONGEST: u32 = 16776961;
@@ -48,7 +48,7 @@ fn argument(i: usize, file: &mut [u8], store: &mut [u8]) {
 
 // A file of so many made-up bytes.
 fn made_up(word: &[u8], file: &mut [u8], store: &mut [u8]) {
-    match digits::number(word, LONGEST) {
+    match text_numbers::number(word, LONGEST) {
         NumberAnswer::Value(size) => {
             let bytes = space::front_mut(file, size as usize);
             space::fill(bytes);

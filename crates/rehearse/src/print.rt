@@ -1,8 +1,8 @@
 // What is printed.
 use libc::STDOUT_FILENO;
-use message::Refusal;
+use message_rules::Refusal;
 use round_rules::State;
-use upload::Sender;
+use sender_rules::Sender;
 
 pub(crate) fn text(bytes: &[u8]) {
     io::write_all(STDOUT_FILENO, bytes);
@@ -32,7 +32,7 @@ pub(crate) fn refused_round(count: u32, refusal: Refusal) {
 
 pub(crate) fn refused(refusal: Refusal) {
     text(b"refused ");
-    number(fields::refusal_number(refusal) as u64);
+    number(message_fields::refusal_number(refusal) as u64);
     text(b"\n");
 }
 

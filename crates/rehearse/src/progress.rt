@@ -1,14 +1,14 @@
 // Progress of a long file, on standard error where that is a terminal. The cursor stays in front of what is shown, so that what is written
 // next takes its place.
 use libc::STDERR_FILENO;
-use upload::Sender;
+use sender_rules::Sender;
 
 // So many rounds lie between two signs of progress: a file of fewer than 1,024 frames shows none.
 const STEP: u32 = 4096;
 
 // How much of the file is known to be stored.
 pub(crate) fn show(sender: Sender) {
-    let frames = file::frame_count(sender.length) as u64;
+    let frames = file_frames::frame_count(sender.size) as u64;
     if sender.rounds % STEP == 0 && frames > 0 && is_terminal() {
         percent(sender.frame as u64 * 100 / frames);
     }

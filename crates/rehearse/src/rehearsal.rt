@@ -6,14 +6,14 @@ use crate::run;
 use crate::space;
 use device::Device;
 use device::Phase;
-use link::Link;
-use message::ErrorByte;
-use message::Kind;
-use message::Message;
-use message::Verdict;
-use message::WriteAnswer;
-use upload::Sender;
-use upload::SenderAnswer;
+use link_rules::Link;
+use message_rules::ErrorByte;
+use message_rules::Kind;
+use message_rules::Message;
+use message_rules::Verdict;
+use message_rules::WriteAnswer;
+use sender_rules::Sender;
+use sender_rules::SenderAnswer;
 
 const SENDER: u8 = 1;
 

@@ -7,9 +7,9 @@ use crate::course;
 use crate::course::Course;
 use crate::progress;
 use device::Device;
-use message::Verdict;
+use message_rules::Verdict;
 use round_rules::State;
-use upload::Sender;
+use sender_rules::Sender;
 
 // Two hundred rounds for each of 65,535 frames: every sender has ended by then.
 const MOST: u32 = 13107000;
@@ -31,7 +31,13 @@ pub(crate) fn run(unit: Device, first: Sender, course: Course, file: &[u8], stor
     let mut sender = first;
     let mut count: u32 = 0;
     while count < MOST && runs(sender) {
-        let rounded = rounds::round(device, sender, course::round(course, count), file, store);
+        let rounded = upload_round::round(
+            device,
+            sender,
+            course::round(course, count),
+            file,
+            store,
+        );
         device = rounded.device;
         sender = rounded.sender;
         count += 1;

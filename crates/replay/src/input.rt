@@ -93,7 +93,7 @@ fn drop_line(buffer: &mut [u8], end: usize, have: usize) -> usize {
     to
 }
 
-// Reads on behind the bytes that are there. Answers how many there are then: no more at the input's end.
+// Reads on after the bytes that are there. Answers how many there are then: no more at the input's end.
 fn read_on(script: i32, buffer: &mut [u8], have: usize) -> usize {
     if buffer.len() <= have {
         return have;

@@ -1,9 +1,9 @@
 // What a script keeps: a unit with its store, a sender and a file. Store and file are the first so many bytes of their arrays.
 use device::Device;
-use link::Link;
+use link_rules::Link;
 use round_rules::State;
-use upload::Sender;
-use upload::Stage;
+use sender_rules::Sender;
+use sender_rules::Stage;
 
 pub struct Kept {
     // A unit has been made.
@@ -26,7 +26,7 @@ pub(crate) fn none() -> Kept {
         link: Link::Uart,
         source: 0,
         destination: 0,
-        length: 0,
+        size: 0,
         frame: 0,
         stage: Stage::Frame,
         since: 0,

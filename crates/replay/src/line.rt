@@ -29,22 +29,22 @@ pub(crate) fn read(line: &[u8], beyond: bool, bytes: &mut [u8]) -> Call {
 // A line by the shape of the call that its first word names.
 fn named(line: &[u8], bytes: &mut [u8]) -> Call {
     let shapes = b"clox clkbbbebox crkbbbebx clbs coxt ct c cf clbbn co cx cwd";
-    match value_of(b'c', words::word(line, 0), bytes) {
-        Value::Is(name) => shaped(line, words::word(shapes, name), bytes),
+    match value_of(b'c', text_words::word(line, 0), bytes) {
+        Value::Is(name) => shaped(line, text_words::word(shapes, name), bytes),
         Value::Bad => [BAD; 10],
     }
 }
 
 // A line by a shape.
 fn shaped(line: &[u8], shape: &[u8], bytes: &mut [u8]) -> Call {
-    let count = words::word_count(line);
+    let count = text_words::word_count(line);
     if !can_end(letter(shape, count)) {
         return [BAD; 10];
     }
     let mut call = [ABSENT; 10];
     let mut k = 0;
     while k < count {
-        match value_of(letter(shape, k), words::word(line, k), bytes) {
+        match value_of(letter(shape, k), text_words::word(line, k), bytes) {
             Value::Is(n) => {
                 set(&mut call, k, n);
                 k += 1;

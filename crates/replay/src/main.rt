@@ -6,6 +6,7 @@ mod keep;
 mod line;
 mod plain;
 mod print;
+mod records;
 mod round;
 mod runner;
 mod sending;

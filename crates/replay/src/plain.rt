@@ -6,9 +6,9 @@ use crate::call::message;
 use crate::input::front;
 use crate::input::output;
 use crate::print;
-use message::ReadAnswer;
-use message::WriteAnswer;
-use records::CanFrame;
+use can_records::CanFrame;
+use message_rules::ReadAnswer;
+use message_rules::WriteAnswer;
 
 pub(crate) fn make(call: Call, bytes: &[u8]) {
     match call[0] {
@@ -52,7 +52,7 @@ fn print_written(answer: WriteAnswer) {
 
 // records COUNT KIND ID SOURCE DESTINATION ERROR INDEX PAYLOAD
 fn records(call: Call, bytes: &[u8]) {
-    let written = records::write_array(message(call), front(bytes, call[8]), lent(), call[1]);
+    let written = crate::records::write(message(call), front(bytes, call[8]), lent(), call[1]);
     let answer = written.answer;
     let frames = written.frames;
     print_written(answer);

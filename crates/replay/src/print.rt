@@ -4,15 +4,15 @@ use crate::word::KINDS;
 use crate::word::NAMES;
 use device::Device;
 use device::Phase;
-use hex::HexAnswer;
 use libc::STDOUT_FILENO;
-use message::ErrorByte;
-use message::Kind;
-use message::Message;
-use message::Refusal;
+use message_rules::ErrorByte;
+use message_rules::Kind;
+use message_rules::Message;
+use message_rules::Refusal;
 use round_rules::State;
-use upload::Sender;
-use upload::Stage;
+use sender_rules::Sender;
+use sender_rules::Stage;
+use text_rules::HexAnswer;
 
 pub(crate) fn text(bytes: &[u8]) {
     io::write_all(STDOUT_FILENO, bytes);
@@ -22,7 +22,7 @@ pub(crate) fn decimal(n: usize) {
     io::print_decimal(STDOUT_FILENO, n as u64);
 }
 
-// ` N`, a number behind another word.
+// ` N`, a number after another word.
 fn number(n: usize) {
     text(b" ");
     decimal(n);
@@ -53,7 +53,7 @@ pub(crate) fn last(out: &[u8]) {
 // A byte string, of at most 4,096 bytes.
 pub(crate) fn bytes(bytes: &[u8]) {
     let mut space = [0u8; 8192];
-    if let HexAnswer::Length(n) = hex_writer::write_hex(bytes, &mut space) {
+    if let HexAnswer::Length(n) = text_hex::write_hex(bytes, &mut space) {
         text(front(&space, n));
     }
 }
@@ -80,7 +80,7 @@ pub(crate) fn refused_line(refusal: Refusal) {
 }
 
 pub(crate) fn refused(refusal: Refusal) {
-    counted(b"refused", fields::refusal_number(refusal) as usize);
+    counted(b"refused", message_fields::refusal_number(refusal) as usize);
 }
 
 // ` PHASE NUMBER BUFFERED CHECKSUM PENDING STORED SIZE` of a unit.
@@ -107,7 +107,7 @@ fn phase_name(phase: Phase) {
 // ` BUFFERED CHECKSUM`
 fn frame(bytes: &[u8]) {
     number(bytes.len());
-    number(checksum::checksum(bytes) as usize);
+    number(file_checksum::checksum(bytes) as usize);
 }
 
 // ` STATE STAGE FRAME SINCE ROUNDS KNOWN` of a sender.
@@ -143,7 +143,7 @@ fn letter(stage: Stage) -> u8 {
 // `KIND ID SOURCE DESTINATION ERROR INDEX LENGTH`.
 pub(crate) fn message(message: Message, length: usize) {
     let kind = message.kind;
-    text(words::word(&NAMES, place(kind)));
+    text(text_words::word(&NAMES, place(kind)));
     next(message.id);
     next(message.source);
     next(message.destination);

@@ -12,12 +12,12 @@ use crate::sending::answered;
 use crate::sending::asked;
 use crate::unit::Step;
 use crate::unit::received;
-use crate::unit::worked;
+use crate::unit::work_done;
 use device::Outcome;
-use message::Verdict;
+use message_rules::Verdict;
 use round_rules::Fate;
 use round_rules::Round;
-use upload::RequestAnswer;
+use sender_rules::RequestAnswer;
 
 // round WORK FATE
 pub(crate) fn make(call: Call, kept: Kept) -> Kept {
@@ -42,7 +42,7 @@ fn rounded(round: Round, kept: Kept) -> Step {
     let sender = kept.sender;
     let file = kept.file;
     let mut store = kept.store;
-    let rounded = rounds::round(
+    let rounded = upload_round::round(
         unit,
         sender,
         round,
@@ -75,8 +75,8 @@ fn print_exchange(round: Round, before: Kept) {
 // After the work step, or rest.
 fn begun(works: bool, kept: Kept) -> Kept {
     if works {
-        let worked = worked(kept);
-        return worked.kept;
+        let step = work_done(kept);
+        return step.kept;
     }
     kept
 }

@@ -6,8 +6,8 @@ use crate::input::output;
 use crate::keep::Kept;
 use crate::keep::with_sender;
 use crate::print;
-use upload::RequestAnswer;
-use upload::SenderAnswer;
+use sender_rules::RequestAnswer;
+use sender_rules::SenderAnswer;
 
 pub(crate) fn make(call: Call, bytes: &[u8], kept: Kept) -> Kept {
     match call[0] {
@@ -24,7 +24,7 @@ pub(crate) fn make(call: Call, bytes: &[u8], kept: Kept) -> Kept {
 // file BYTES
 fn keep(call: Call, bytes: &[u8], kept: Kept) -> Kept {
     let mut file = [0u8; 4096];
-    output::lay(front(bytes, call[1]), &mut file);
+    message_output::put(front(bytes, call[1]), &mut file);
     print::ok_line();
     let mut next = kept;
     next.file = file;

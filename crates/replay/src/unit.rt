@@ -10,7 +10,7 @@ use crate::keep::with_unit;
 use crate::print;
 use device::Outcome;
 use device::UnitAnswer;
-use message::Verdict;
+use message_rules::Verdict;
 
 // What is kept after bytes have arrived at the unit, and what came of them.
 pub struct Arrival {
@@ -120,16 +120,16 @@ fn print_outcome(outcome: Outcome) {
 // work
 fn work(kept: Kept) -> Kept {
     let unit = kept.unit;
-    let worked = worked(kept);
-    let verdict = worked.verdict;
+    let step = work_done(kept);
+    let verdict = step.verdict;
     let transfer = unit.transfer;
-    print_worked(verdict, transfer.pending);
-    let next = worked.kept;
+    print_work(verdict, transfer.pending);
+    let next = step.kept;
     shown(next)
 }
 
 // The unit's work step, on the store that is kept.
-pub(crate) fn worked(kept: Kept) -> Step {
+pub(crate) fn work_done(kept: Kept) -> Step {
     let unit = kept.unit;
     let mut store = kept.store;
     let stepped = device::work(unit, output(&mut store, kept.store_length));
@@ -141,7 +141,7 @@ pub(crate) fn worked(kept: Kept) -> Step {
     }
 }
 
-fn print_worked(verdict: Verdict, pending: bool) {
+fn print_work(verdict: Verdict, pending: bool) {
     match verdict {
         Verdict::Refused(refusal) => print::refused(refusal),
         Verdict::Passed => {

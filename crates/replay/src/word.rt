@@ -1,7 +1,7 @@
 // What a word of a call stands for, as a number: a name by its place in a list, a byte string by its length.
 use crate::input::output;
-use digits::NumberAnswer;
-use hex::HexAnswer;
+use text_rules::HexAnswer;
+use text_rules::NumberAnswer;
 
 pub enum Value {
     Is(usize),
@@ -59,7 +59,7 @@ fn most(letter: u8) -> u32 {
 fn place(word: &[u8], from: usize, to: usize) -> Value {
     let mut k = from;
     while k < to {
-        if check::same(word, words::word(&NAMES, k)) {
+        if check::same(word, text_words::word(&NAMES, k)) {
             return Value::Is(k - from);
         }
         k += 1;
@@ -68,7 +68,7 @@ fn place(word: &[u8], from: usize, to: usize) -> Value {
 }
 
 fn byte_string(word: &[u8], room: &mut [u8]) -> Value {
-    match hex_reader::read_hex(word, room) {
+    match text_hex::read_hex(word, room) {
         HexAnswer::Length(n) => Value::Is(n),
         HexAnswer::Bad => Value::Bad,
     }
@@ -82,7 +82,7 @@ fn error(word: &[u8]) -> Value {
 }
 
 fn number(word: &[u8], most: u32) -> Value {
-    match digits::number(word, most) {
+    match text_numbers::number(word, most) {
         NumberAnswer::Value(n) => Value::Is(n as usize),
         NumberAnswer::Bad => Value::Bad,
     }

@@ -50,27 +50,27 @@ none-good-more l =
     }
 
 -- A good round that some rounds reach over is one of them.
-hits : (a b before fifty behind : List Bool) → a ++ (true ∷ b) ≡ before ++ (fifty ++ behind) → length before ≤ length a → length a < length before + length fifty
+hits : (a b before fifty after : List Bool) → a ++ (true ∷ b) ≡ before ++ (fifty ++ after) → length before ≤ length a → length a < length before + length fifty
     → 1 ≤ goodRounds fifty
 unfolding goodRounds
-hits a b [] [] behind e low high = absurd (omega arith)
-hits [] b (x ∷ before) fifty behind e low high = absurd (omega arith)
-hits (y ∷ a) b (x ∷ before) fifty behind e low high =
-    let rest : a ++ (true ∷ b) ≡ before ++ (fifty ++ behind) = cc in
-    hits a b before fifty behind rest (omega arith) (omega arith)
-hits [] b [] (true ∷ fifty) behind e low high = omega arith
-hits [] b [] (false ∷ fifty) behind e low high = absurd (let z : _≡_ {A = ℕ} 0 1 = cc in omega arith)
-hits (y ∷ a) b [] (x ∷ fifty) behind e low high =
-    let rest : a ++ (true ∷ b) ≡ fifty ++ behind = cc in
-    let more = hits a b [] fifty behind rest (omega arith) (omega arith) in
+hits a b [] [] after e low high = absurd (omega arith)
+hits [] b (x ∷ before) fifty after e low high = absurd (omega arith)
+hits (y ∷ a) b (x ∷ before) fifty after e low high =
+    let rest : a ++ (true ∷ b) ≡ before ++ (fifty ++ after) = cc in
+    hits a b before fifty after rest (omega arith) (omega arith)
+hits [] b [] (true ∷ fifty) after e low high = omega arith
+hits [] b [] (false ∷ fifty) after e low high = absurd (let z : _≡_ {A = ℕ} 0 1 = cc in omega arith)
+hits (y ∷ a) b [] (x ∷ fifty) after e low high =
+    let rest : a ++ (true ∷ b) ≡ fifty ++ after = cc in
+    let more = hits a b [] fifty after rest (omega arith) (omega arith) in
     omega (arith, more, good-append (x ∷ []) fifty)
 
--- One good round in fifty is enough: forty-nine in a row may lack one, before it and behind it.
+-- One good round in fifty is enough: forty-nine in a row may lack one, before it and after it.
 pub one-in-fifty : (a b : List Bool) → length a ≤ 49 → length b ≤ 49 → NoFiftyWithout (a ++ (true ∷ b))
-one-in-fifty a b few more before fifty behind e size =
-    let all : length a + length (true ∷ b) ≡ length before + (length fifty + length behind) =
-    rw (← length-append fifty behind, ← length-append before (fifty ++ behind), ← e) (sym (length-append a (true ∷ b))) in
-    hits a b before fifty behind e (omega (arith, all, size, more)) (omega (arith, size, few))
+one-in-fifty a b few more before fifty after e size =
+    let all : length a + length (true ∷ b) ≡ length before + (length fifty + length after) =
+    rw (← length-append fifty after, ← length-append before (fifty ++ after), ← e) (sym (length-append a (true ∷ b))) in
+    hits a b before fifty after e (omega (arith, all, size, more)) (omega (arith, size, few))
 
 -- Fifty rounds without a good one is what NoFiftyWithout excludes.
 pub fifty-without : (past rest : List Bool) → NoneGood past 50 → NoFiftyWithout (past ++ rest) → ⊥
@@ -78,20 +78,20 @@ fifty-without past rest l good =
     omega (arith, good (l .before) (l .tail) rest (rw (l .whole, append-assoc)) (omega (arith, l .size)))
 
 -- What the rounds so far have come to, after so many steps forward and rounds since the last.
-pub record Course (steps since : ℕ) (past : List Bool) : Type 0 where
+pub record Tally (steps since : ℕ) (past : List Bool) : Type 0 where
   pub few : since < 50
   pub noneGood : NoneGood past since
   pub rounds : length past ≤ 50 * steps + since
   pub good : goodRounds past ≤ steps
 
-pub course-begins : Course 0 0 []
+pub tally-begins : Tally 0 0 []
 unfolding goodRounds
-course-begins = record { few = omega arith; noneGood = none-good-yet []; rounds = omega arith; good = omega arith }
+tally-begins = record { few = omega arith; noneGood = none-good-yet []; rounds = omega arith; good = omega arith }
 
-module _ {steps since : ℕ} {past : List Bool} (c : Course steps since past) where
+module _ {steps since : ℕ} {past : List Bool} (c : Tally steps since past) where
   -- A round more without a step, the fiftieth such round,
-  pub course-waits : since + 1 < 50 → Course steps (since + 1) (past ++ (false ∷ []))
-  course-waits h =
+  pub tally-waits : since + 1 < 50 → Tally steps (since + 1) (past ++ (false ∷ []))
+  tally-waits h =
       record {
         few = h;
         noneGood = none-good-more (c .noneGood);
@@ -99,8 +99,8 @@ module _ {steps since : ℕ} {past : List Bool} (c : Course steps since past) wh
         good = rw (bad-round past) (c .good);
       }
 
-  pub course-over : 50 ≤ since + 1 → NoneGood (past ++ (false ∷ [])) 50
-  course-over h =
+  pub tally-over : 50 ≤ since + 1 → NoneGood (past ++ (false ∷ [])) 50
+  tally-over h =
       let fifty : since + 1 ≡ 50 = omega (arith, h, c .few) in
       rw (← fifty) (none-good-more (c .noneGood))
 
@@ -109,8 +109,8 @@ module _ {steps since : ℕ} {past : List Bool} (c : Course steps since past) wh
   good-most true = omega (arith, good-round past)
   good-most false = omega (arith, bad-round past)
 
-  pub course-steps : (r : Bool) → Course (steps + 1) 0 (past ++ (r ∷ []))
-  course-steps r =
+  pub tally-steps : (r : Bool) → Tally (steps + 1) 0 (past ++ (r ∷ []))
+  tally-steps r =
       record {
         few = omega arith;
         noneGood = none-good-yet (past ++ (r ∷ []));
@@ -119,12 +119,12 @@ module _ {steps since : ℕ} {past : List Bool} (c : Course steps since past) wh
       }
 
 -- Where a requester with so many steps in all stands after these rounds.
-pub data Stands (steps : ℕ) (past : List Bool) : State → Type 0 where
-  stillRuns : (n since : ℕ) → Course n since past → n < steps → Stands steps past Running
-  gaveUp : NoneGood past 50 → Stands steps past GivenUp
-  finished : Stands steps past Finished
+pub data Position (steps : ℕ) (past : List Bool) : State → Type 0 where
+  stillRuns : (n since : ℕ) → Tally n since past → n < steps → Position steps past Running
+  gaveUp : NoneGood past 50 → Position steps past GivenUp
+  finished : Position steps past Finished
 
-pub bounded : (steps : ℕ) (past : List Bool) (o : State) → Stands steps past o → Bounded steps past o
+pub bounded : (steps : ℕ) (past : List Bool) (o : State) → Position steps past o → Bounded steps past o
 bounded steps past Running (stillRuns n since c h) =
     record {
       ended = λ most. absurd (omega (arith, c .rounds, c .few, h, most));

@@ -1,4 +1,4 @@
--- A beginning of a legal list is legal, with its own rounds: induction over the list, cut at its first call or behind it.
+-- A beginning of a legal list is legal, with its own rounds: induction over the list, cut at its first call or after it.
 use Prim.Native.Nat.{ℕ}
 use mathlib.Core.Bool.{Bool, false}
 use mathlib.Core.List.{List, [], _∷_, _++_}
@@ -13,7 +13,7 @@ unfolding run
 run-append s w [] b = refl
 run-append s w (c ∷ a) b = run-append s (does s w c) a b
 
--- A list with a first call, cut at it or behind it.
+-- A list with a first call, cut at it or after it.
 cut : (P : List Call → Type 0) (a b : List Call) (c : Call) (h : List Call) → c ∷ h ≡ a ++ b → P [] → ((a′ : List Call) → h ≡ a′ ++ b → P (c ∷ a′)) → P a
 cut P [] b c h e empty some = empty
 cut P (x ∷ a) b c h e empty some =

@@ -4,8 +4,8 @@ use mathlib.Core.Bool.{true}
 use mathlib.Core.List.{List}
 use mathlib.Core.Path.{_≡_, refl}
 use native.Mathlib.Omega.{arith}
-use Rattle.message.specs.Answer.{Answer, refused, given}
-use Rattle.link.specs.declared.Link.{Link}
+use Rattle.message_rules.specs.Answer.{Answer, refused, given}
+use Rattle.link_rules.specs.declared.Link.{Link}
 use Rattle.device_rules.specs.declared.Device.{Device}
 use Rattle.device_rules.specs.Device.{make}
 use Rattle.device_rules.specs.Work.{storeAfter, afterWork}

@@ -1,9 +1,9 @@
--- One round more, behind those that were made: carried by the list of rounds.
+-- One round more, after those that were made: carried by the list of rounds.
 use Prim.Native.Nat.{ℕ}
 use mathlib.Core.List.{List, [], _∷_, _++_}
 use mathlib.Core.Path.{_≡_, refl}
 use native.Mathlib.Omega.{arith}
-use Rattle.message.specs.Answer.{Check, passed, failed}
+use Rattle.message_rules.specs.Answer.{Check, passed, failed}
 use Rattle.round_rules.specs.Requester.{Requester}
 use Rattle.round_rules.specs.Rounds.{nothingSent, choose, roundMade, roundRefusal, roundsMade, roundsRefusal}
 use Rattle.round_rules.specs.World.{World}

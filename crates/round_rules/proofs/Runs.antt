@@ -4,7 +4,7 @@ use mathlib.Core.Bool.{Bool, true, false}
 use mathlib.Core.List.{List, [], _∷_}
 use mathlib.Core.Path.{_≡_, refl, ap, _∙_}
 use native.Mathlib.Omega.{arith}
-use Rattle.message.specs.Answer.{Answer, Check, refused, given, passed, failed}
+use Rattle.message_rules.specs.Answer.{Answer, Check, refused, given, passed, failed}
 use Rattle.device_rules.specs.declared.Device.{Device}
 use Rattle.round_rules.specs.Legal.{between}
 use Rattle.round_rules.specs.Requester.{shared, Requester}

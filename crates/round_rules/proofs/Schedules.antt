@@ -4,7 +4,7 @@ use mathlib.Core.Bool.{Bool, true, false, _&&_}
 use mathlib.Core.List.{List, [], _∷_, _++_}
 use mathlib.Core.Path.{_≡_, refl, ap}
 use lib.ListN.{length}
-use Rattle.message.specs.Answer.{within, after, require}
+use Rattle.message_rules.specs.Answer.{within, after, require}
 use Rattle.round_rules.specs.Requester.{shared, Requester}
 use Rattle.round_rules.specs.Legal.{Place, begun, asked, arrived, repeated, between, Legal, stops, workDone, requestMade, requestArrives, requestRepeats, delivered, requestLost, answerLost, twice, endedWorks, endedAsks}
 use Rattle.round_rules.specs.Schedule.{comesBack, isGood, goods, output, exchange, requested, roundCalls, scheduled, Realised}
@@ -122,7 +122,7 @@ module _ {S : Type 0} {a : Requester S} {k : Shape S} (st : Steady a k) (f : Fre
       by true e =
           let on = st .goesOn w past n between h in
           let free = f .worksFree w past n between h in
-          rw e (first a k (Between a k) w between (begun true) _ _ _ free (λ rest rs. workDone on free) (requested-plays (r .fate) true _ past _ (st .worked w past n free h)))
+          rw e (first a k (Between a k) w between (begun true) _ _ _ free (λ rest rs. workDone on free) (requested-plays (r .fate) true _ past _ (st .worksOne w past n free h)))
       by false e = rw e (requested-plays (r .fate) false w past n h)
 
   -- After the end the calls of a round are no round.

@@ -4,7 +4,7 @@ use mathlib.Core.Bool.{Bool, true, false, cond}
 use mathlib.Core.List.{List, [], _∷_, _++_, append-nil, append-assoc}
 use mathlib.Core.Path.{_≡_}
 use native.Mathlib.Omega.{arith}
-use Rattle.message.specs.Answer.{given}
+use Rattle.message_rules.specs.Answer.{given}
 use Rattle.device_rules.specs.declared.Device.{Device}
 use Rattle.round_rules.specs.Requester.{isRunning, nothing, Lent, shared, Requester}
 use Rattle.round_rules.specs.Legal.{Place, begun, asked, arrived, repeated, between, Legal, stops, refuses, begunAnew, workDone, requestMade, requestArrives, requestRepeats, delivered, requestLost, answerLost, twice, endedWorks, endedAsks, endedHears}
@@ -31,7 +31,7 @@ pub record Steady {S : Type 0} (a : Requester S) (k : Shape S) : Type 0 where
   pub isOver : (w : World S) (past : List Bool) (n : k .Note) → k .Ended (w .device) (w .store) (w .requester) past n → runsOn a w ≡ false
   -- A round begun anew, the calls of a round,
   pub anew : (w : World S) (past : List Bool) (n : k .Note) (p : Place) → k .Running w past n p → k .Running w past n between
-  pub worked : (w : World S) (past : List Bool) (n : k .Note) → isRefused a w (works shared) ≡ false
+  pub worksOne : (w : World S) (past : List Bool) (n : k .Note) → isRefused a w (works shared) ≡ false
       → k .Running w past n between → k .Running (does a w (works shared)) past (k .noteWork n) (begun true)
   pub asksOne : (w : World S) (past : List Bool) (n : k .Note) (d : Bool) (out : List ℕ) → isRefused a w (asks shared out) ≡ false
       → k .Running w past n (begun d) → k .Running (does a w (asks shared out)) past n (asked d)
@@ -135,7 +135,7 @@ module _ {S : Type 0} {a : Requester S} {k : Shape S} (st : Steady a k) where
     -- A call of a round, with its note.
     keeps-work : isRefused a w (works shared) ≡ false → k .Running w past n between → k .Running (does a w (works shared)) past (noted a k w (works shared) n) (begun true)
     unfolding note
-    keeps-work e h = rw (noted-done (works shared) e) (st .worked w past n e h)
+    keeps-work e h = rw (noted-done (works shared) e) (st .worksOne w past n e h)
 
     keeps-ask : (d : Bool) (out : List ℕ) → isRefused a w (asks shared out) ≡ false → k .Running w past n (begun d) → k .Running (does a w (asks shared out)) past (noted a k w (asks shared out) n) (asked d)
     unfolding note

@@ -17,7 +17,7 @@ goodRounds (false ∷ rs) = goodRounds rs
 
 -- "No fifty rounds in a row lack a good one": fifty rounds anywhere have one.
 abbrev pub NoFiftyWithout : List Bool → Type 0
-NoFiftyWithout rs = (before fifty behind : List Bool) → rs ≡ before ++ (fifty ++ behind) → length fifty ≡ 50 → 1 ≤ goodRounds fifty
+NoFiftyWithout rs = (before fifty after : List Bool) → rs ≡ before ++ (fifty ++ after) → length fifty ≡ 50 → 1 ≤ goodRounds fifty
 
 -- What the rounds say of a requester that has so many steps to go in all.
 pub record Bounded (steps : ℕ) (rounds : List Bool) (outcome : State) : Type 0 where

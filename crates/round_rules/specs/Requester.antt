@@ -2,8 +2,8 @@
 use Prim.Native.Nat.{ℕ}
 use mathlib.Core.Bool.{Bool, true, false}
 use mathlib.Core.List.{List}
-use Rattle.message.specs.Answer.{Answer}
-use Rattle.link.specs.declared.Link.{Link}
+use Rattle.message_rules.specs.Answer.{Answer}
+use Rattle.link_rules.specs.declared.Link.{Link}
 use Rattle.round_rules.specs.declared.State.{State}
 use Rattle.round_rules.specs.declared.State.the-variants.{Running, Finished, GivenUp}
 

@@ -2,7 +2,7 @@
 -- a refused call "nothing moves" and none of them "is a round".
 use Prim.Native.Nat.{ℕ}
 use mathlib.Core.List.{List, [], _∷_}
-use Rattle.message.specs.Answer.{Check, passed, failed}
+use Rattle.message_rules.specs.Answer.{Check, passed, failed}
 use Rattle.device_rules.specs.declared.Device.{Device}
 use Rattle.round_rules.specs.Requester.{Requester}
 use Rattle.round_rules.specs.Schedule.{roundCalls}

@@ -54,7 +54,7 @@ module _ {S : Type 0} (a : Requester S) where
   scheduled w (r ∷ rs) = roundCalls w r ++ scheduled (run a w (roundCalls w r)) rs
 
   -- Every sequence of rounds gives a legal list: its calls, one round after the other. Its rounds are those of the sequence, all of them or those
-  -- up to the requester's end; behind it there are its calls and work steps alone.
+  -- up to the requester's end; after it there are its calls and work steps alone.
   pub record Realised (w : World S) (rs : List Round) : Type 0 where
     pub rounds : List Bool
     pub later : List Bool

@@ -4,8 +4,8 @@ use Prim.Native.Nat.{ℕ}
 use mathlib.Core.Bool.{Bool, true, false}
 use mathlib.Core.List.{List, [], _∷_}
 use lib.ListN.{length}
-use Rattle.message.specs.Answer.{Answer, Check, refused, given, passed, failed, within}
-use Rattle.link.specs.declared.Link.{Link}
+use Rattle.message_rules.specs.Answer.{Answer, Check, refused, given, passed, failed, within}
+use Rattle.link_rules.specs.declared.Link.{Link}
 use Rattle.device_rules.specs.declared.Device.{Device}
 use Rattle.device_rules.specs.Device.{make}
 use Rattle.device_rules.specs.Work.{work, storeAfter, afterWork}

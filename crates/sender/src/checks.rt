@@ -4,7 +4,7 @@ ghost use lib.Dec.{eqb};
 ghost use lib.ListN.{length};
 ghost use Rattle.round_rules.specs.Requester.{isRunning};
 use round_rules::State;
-use upload::Sender;
+use sender_rules::Sender;
 
 pub(crate) fn is_running(state: State) -> bool
     ensures { λ r. ⌜ r ≡ isRunning state ⌝ }
@@ -18,7 +18,7 @@ pub(crate) fn is_running(state: State) -> bool
 
 // The file still has the length that the sender was started with.
 pub(crate) fn same_file(sender: Sender, file: &[u8]) -> bool
-    ensures { λ r. ⌜ r ≡ eqb (length (now (file .entry))) (sender .length) ⌝ }
+    ensures { λ r. ⌜ r ≡ eqb (length (now (file .entry))) (sender .size) ⌝ }
 {
-    file.len() == sender.length as usize
+    file.len() == sender.size as usize
 }

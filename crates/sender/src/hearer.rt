@@ -1,18 +1,18 @@
 // The answer of a round.
 ghost use mathlib.Core.Path.{_≡_};
-ghost use Rattle.link.specs.Link.{linkRead};
-ghost use Rattle.upload.specs.Round.{meaning, hear};
-ghost use Rattle.upload.specs.Sender.{senderTold};
+ghost use Rattle.link_rules.specs.Link.{linkRead};
+ghost use Rattle.sender_rules.specs.Hearing.{meaning, hear};
+ghost use Rattle.sender_rules.specs.Sender.{senderResult};
 use crate::checks;
-use message::ReadAnswer;
-use message::Refusal;
-use upload::Meaning;
-use upload::Sender;
-use upload::SenderAnswer;
+use message_rules::ReadAnswer;
+use message_rules::Refusal;
+use sender_rules::Meaning;
+use sender_rules::Sender;
+use sender_rules::SenderAnswer;
 
 // Takes the answer's bytes, none where there was no answer, and counts the round.
 pub fn hear(sender: Sender, file: &[u8], answer: &[u8]) -> SenderAnswer
-    ensures { λ r. ⌜ senderTold r ≡ hear sender (now (file .entry)) (now (answer .entry)) ⌝ }
+    ensures { λ r. ⌜ senderResult r ≡ hear sender (now (file .entry)) (now (answer .entry)) ⌝ }
 {
     let state = sender.state;
     if !checks::is_running(state) {
@@ -21,7 +21,7 @@ pub fn hear(sender: Sender, file: &[u8], answer: &[u8]) -> SenderAnswer
     if !checks::same_file(sender, file) {
         return SenderAnswer::Refused(Refusal::IllegalFileSize);
     }
-    SenderAnswer::Sender(stages::round_over(sender, meaning(sender, file, answer)))
+    SenderAnswer::Sender(sender_stages::round_over(sender, meaning(sender, file, answer)))
 }
 
 // What the answer's bytes mean, none where there was no answer.
@@ -33,5 +33,5 @@ fn meaning(sender: Sender, file: &[u8], answer: &[u8]) -> Meaning
     let ReadAnswer::Message(message, length) = link_reader::read(link, answer, &mut payload) else {
         return Meaning::Stay;
     };
-    meanings::message_meaning(sender, file, message, &payload[..length])
+    sender_answers::message_meaning(sender, file, message, &payload[..length])
 }

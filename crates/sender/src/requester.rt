@@ -1,23 +1,23 @@
 // The request of a round.
 ghost use mathlib.Core.Path.{_≡_};
-ghost use Rattle.message.specs.Answer.{within, counted, laid, about};
-ghost use Rattle.link.specs.Link.{linkWrite};
-ghost use Rattle.little_endian.specs.LittleEndian.{toBytes};
+ghost use Rattle.message_rules.specs.Answer.{within, counted, outputAfter, about};
+ghost use Rattle.link_rules.specs.Link.{linkWrite};
+ghost use Rattle.little_endian_rules.specs.LittleEndian.{toBytes};
 ghost use Rattle.round_rules.specs.Requester.{sent};
-ghost use Rattle.upload.specs.Sender.{request, requestPayload, requestTold};
+ghost use Rattle.sender_rules.specs.Sender.{request, requestPayload, requestResult};
 use crate::checks;
-use link::Link;
-use message::Message;
-use message::Refusal;
-use message::WriteAnswer;
-use upload::RequestAnswer;
-use upload::Sender;
-use upload::Stage;
+use link_rules::Link;
+use message_rules::Message;
+use message_rules::Refusal;
+use message_rules::WriteAnswer;
+use sender_rules::RequestAnswer;
+use sender_rules::Sender;
+use sender_rules::Stage;
 
 // Writes the request of the sender's stage to the start of out. It changes nothing of the sender.
 pub fn request(sender: Sender, file: &[u8], out: &mut [u8]) -> RequestAnswer
-    ensures { λ r. ⌜ requestTold r ≡ counted (within (now (out .entry)) (request sender (now (file .entry)))) ⌝ }
-    ensures { λ _. ⌜ now (out .exit) ≡ laid (within (now (out .entry)) (request sender (now (file .entry)))) (now (out .entry)) ⌝ }
+    ensures { λ r. ⌜ requestResult r ≡ counted (within (now (out .entry)) (request sender (now (file .entry)))) ⌝ }
+    ensures { λ _. ⌜ now (out .exit) ≡ outputAfter (within (now (out .entry)) (request sender (now (file .entry)))) (now (out .entry)) ⌝ }
 {
     let state = sender.state;
     if !checks::is_running(state) {
@@ -39,8 +39,8 @@ fn request_payload<'a>(stage: Stage, file: &'a [u8], frame: u32, number: &'a [u8
     ensures { λ r. ⌜ now r ≡ requestPayload stage (now (file .entry)) frame ⌝ }
 {
     match stage {
-        Stage::Frame => file::frame_bytes(file, frame),
-        Stage::Back => file::frame_bytes(file, frame),
+        Stage::Frame => file_frames::frame_bytes(file, frame),
+        Stage::Back => file_frames::frame_bytes(file, frame),
         Stage::Compare => &file[..0],
         Stage::Take => number,
         Stage::Confirm => &file[..0],
@@ -48,8 +48,8 @@ fn request_payload<'a>(stage: Stage, file: &'a [u8], frame: u32, number: &'a [u8
 }
 
 fn send(link: Link, message: Message, payload: &[u8], out: &mut [u8]) -> RequestAnswer
-    ensures { λ r. ⌜ requestTold r ≡ counted (within (now (out .entry)) (about sent (linkWrite link message (now (payload .entry))))) ⌝ }
-    ensures { λ _. ⌜ now (out .exit) ≡ laid (within (now (out .entry)) (about sent (linkWrite link message (now (payload .entry))))) (now (out .entry)) ⌝ }
+    ensures { λ r. ⌜ requestResult r ≡ counted (within (now (out .entry)) (about sent (linkWrite link message (now (payload .entry))))) ⌝ }
+    ensures { λ _. ⌜ now (out .exit) ≡ outputAfter (within (now (out .entry)) (about sent (linkWrite link message (now (payload .entry))))) (now (out .entry)) ⌝ }
 {
     match link_writer::write(link, message, payload, out) {
         WriteAnswer::Length(n) => RequestAnswer::Request(n),

@@ -1,16 +1,16 @@
 // The sender's state (document 01, "The sender and its rounds"): starting it, and what is read from it, the fields of its request and the
-// frames that are known to be stored. The type stands in the crate `upload`, with the rules.
+// frames that are known to be stored. The type stands in the crate `sender_rules`, with the rules.
 mod starter;
 
 ghost use mathlib.Core.Path.{_≡_};
-ghost use Rattle.upload.specs.Sender.{requestKind, requestId, requestMessage, framesKnown};
-use message::ErrorByte;
-use message::Kind;
-use message::Message;
+ghost use Rattle.sender_rules.specs.Sender.{requestKind, requestId, requestMessage, framesKnown};
+use message_rules::ErrorByte;
+use message_rules::Kind;
+use message_rules::Message;
 use round_rules::State;
+use sender_rules::Sender;
+use sender_rules::Stage;
 pub use starter::start;
-use upload::Sender;
-use upload::Stage;
 
 // The request of the stage that the sender is at, without what it carries.
 pub fn request_message(sender: Sender) -> Message

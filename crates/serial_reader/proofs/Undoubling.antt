@@ -9,13 +9,14 @@ use native.Mathlib.Omega.{arith}
 use borrow.Author.Tests.{eqb-true, eqb-false, ltb-true, ltb-false}
 use lib.Dec.{eqb, ltb}
 use lib.ListN.{length, getD, set, drop, length-drop, length-set}
-use lib.Seq.{drop-cons, getD-drop, sets}
-use Rattle.stuffing.proofs.Scans.{step-plain, step-escaped, step-cut, step-end}
-use Rattle.stuffing.specs.Stuffing.{Scan, scan, escaped, stopped, more}
-use Rattle.stuffing.specs.declared.Stop.{Stop}
-use Rattle.stuffing.specs.declared.Stop.the-variants.{Ended, Broken, Cut}
+use lib.Seq.{drop-cons, getD-drop}
+use Rattle.serial_rules.specs.Stuffing.{Scan, scan, escaped, stopped, more}
+use Rattle.serial_rules.specs.declared.Stop.{Stop}
+use Rattle.serial_rules.specs.declared.Stop.the-variants.{Ended, Broken, Cut}
+use Rattle.serial_rules.proofs.Scans.{step-plain, step-escaped, step-cut, step-end}
+use Rattle.serial_reader.specs.Undouble.{Skipped, Storing, AtEscape}
 
--- Where a scan isn't cut at once there is a byte, and behind an ESC another.
+-- Where a scan isn't cut at once there is a byte, and after an ESC another.
 module _ (b : List ℕ) (i : ℕ) (not-cut : scan (drop i b) ≡ stopped Cut 0 → ⊥) where
   inside : i < length b
   inside = by (ltb i (length b)) refl
@@ -99,48 +100,43 @@ module _ (b : List ℕ) (i : ℕ) (ended : scan (drop i b) .stop ≡ Ended) wher
     pub ended-doubled : (getD b (i + 1) 0 ≡ 0xFF → ⊥) → EncodedAt b i 2
     ended-doubled ne = doubled-byte b i not-cut not-broken (λ q _. ne q) e
 
--- The place `at` stands i encoded bytes behind `from`.
-abbrev pub Behind : List ℕ → ℕ → ℕ → ℕ → Type 0
-Behind b from i at = (scan (drop at b) .body ≡ drop i (scan (drop from b) .body)) × (scan (drop at b) .stop ≡ scan (drop from b) .stop) × (at + scan (drop at b) .passed ≡ from + scan (drop from b) .passed)
-
-module _ (b : List ℕ) (from i at : ℕ) (h : Behind b from i at) (l : i < length (scan (drop from b) .body)) where
+-- One encoded byte more.
+module _ (b : List ℕ) (from i at : ℕ) (h : Skipped b from i at) (l : i < length (scan (drop from b) .body)) where
   left : 0 < length (scan (drop at b) .body)
-  left = rw (h .0, length-drop) (omega arith)
+  left = rw (h .body, length-drop) (omega arith)
 
-  more-behind : (k : ℕ) → EncodedAt b at k → Behind b from (i + 1) (at + k)
-  more-behind k u =
+  skip-more : (k : ℕ) → EncodedAt b at k → Skipped b from (i + 1) (at + k)
+  skip-more k u =
       let body : scan (drop at b) .body ≡ getD b at 0 ∷ scan (drop (at + k) b) .body = ap (λ (r : Scan). r .body) (u .scanned) in
       let stop : scan (drop at b) .stop ≡ scan (drop (at + k) b) .stop = ap (λ (r : Scan). r .stop) (u .scanned) in
-      let passed : scan (drop at b) .passed ≡ k + scan (drop (at + k) b) .passed = ap (λ (r : Scan). r .passed) (u .scanned) in
-      (rw add-one (cc (drop-cons (scan (drop from b) .body) i 0 l)), cc, omega arith)
+      let consumed : scan (drop at b) .consumed ≡ k + scan (drop (at + k) b) .consumed = ap (λ (r : Scan). r .consumed) (u .scanned) in
+      record { body = rw add-one (cc (drop-cons (scan (drop from b) .body) i 0 l)); stop = cc; end = omega arith }
 
-  pub behind-inside : at < length b
-  behind-inside = left-inside b at left
+  pub skip-inside : at < length b
+  skip-inside = left-inside b at left
 
-  pub behind-byte : getD b at 0 ≡ getD (scan (drop from b) .body) i 0
-  behind-byte = sym (left-byte b at left) ∙ rw (h .0, getD-drop, add-zero)
+  pub skip-byte : getD b at 0 ≡ getD (scan (drop from b) .body) i 0
+  skip-byte = sym (left-byte b at left) ∙ rw (h .body, getD-drop, add-zero)
 
-  pub behind-plain : (getD b at 0 ≡ 0x1F → ⊥) → Behind b from (i + 1) (at + 1)
-  behind-plain ne = more-behind 1 (plain-byte b at behind-inside ne)
+  pub skip-plain : (getD b at 0 ≡ 0x1F → ⊥) → Skipped b from (i + 1) (at + 1)
+  skip-plain ne = skip-more 1 (plain-byte b at skip-inside ne)
 
-  pub behind-doubled : getD b at 0 ≡ 0x1F → (at + 2 ≤ length b) × Behind b from (i + 1) (at + 2)
-  behind-doubled e = let u = left-doubled b at left e in (u .fits, more-behind 2 u)
+  pub skip-doubled : getD b at 0 ≡ 0x1F → (at + 2 ≤ length b) × Skipped b from (i + 1) (at + 2)
+  skip-doubled e = let u = left-doubled b at left e in (u .fits, skip-more 2 u)
 
--- The output once the rest of the body, from `at` on, is stored from `to` on: it fits, and makes the output `whole`.
-abbrev pub Storing : List ℕ → List ℕ → List ℕ → ℕ → ℕ → Type 0
-Storing b whole out at to = (scan (drop at b) .stop ≡ Ended) × (to + length (scan (drop at b) .body) ≤ length out) × (sets out to (scan (drop at b) .body) ≡ whole)
-
+-- One byte of the body stored.
 pub store-byte : (b whole out : List ℕ) (at k to : ℕ) → Storing b whole out at to → EncodedAt b at k → (to < length out) × Storing b whole (set out to (getD b at 0)) (at + k) (to + 1)
 store-byte b whole out at k to h u =
     let body : scan (drop at b) .body ≡ getD b at 0 ∷ scan (drop (at + k) b) .body = ap (λ (r : Scan). r .body) (u .scanned) in
     let stop : scan (drop at b) .stop ≡ scan (drop (at + k) b) .stop = ap (λ (r : Scan). r .stop) (u .scanned) in
     let size = ap length body in
-    (omega arith, (cc, rw length-set (omega arith), rw add-one (rw body at (h .2))))
+    (omega arith, record { fits = record { ended = cc; room = rw length-set (omega arith) }; same = rw add-one (rw body at (h .same)) })
 
 -- At an ESC: a doubled one is stored once, and at the tail all is stored.
-module _ (b whole out : List ℕ) (at to : ℕ) (h : Storing b whole out at to) (e : getD b at 0 ≡ 0x1F) where
+module _ (b whole out : List ℕ) (at to : ℕ) (h : AtEscape b whole out at to) where
   pub store-doubled : (getD b (at + 1) 0 ≡ 0xFF → ⊥) → (to < length out) × Storing b whole (set out to 0x1F) (at + 2) (to + 1)
-  store-doubled ne = rw e at (store-byte b whole out at 2 to h (ended-doubled b at (h .0) e ne))
+  store-doubled ne =
+      rw (h .escape) at (store-byte b whole out at 2 to (h .left) (ended-doubled b at (h .left .fits .ended) (h .escape) ne))
 
   pub store-tail : getD b (at + 1) 0 ≡ 0xFF → out ≡ whole
-  store-tail q = rw (ended-tail b at (h .0) e q) at (h .2)
+  store-tail q = rw (ended-tail b at (h .left .fits .ended) (h .escape) q) at (h .left .same)

@@ -1,38 +1,38 @@
 // Reading a frame. Everything is decided before the first byte is stored, and a checked frame is undoubled straight into
 // the lent output: no array is kept.
-ghost use Prim.Native.Nat.{_+_, _-_, _≤_};
+ghost use Prim.Native.Nat.{_≤_};
 ghost use mathlib.Core.Path.{_≡_};
-ghost use lib.ListN.{length, getD, drop};
-ghost use Rattle.message.specs.Answer.{readTold, within, counted, laid, given};
-ghost use Rattle.message.specs.Body.{bodyRead};
-ghost use Rattle.stuffing.specs.Stuffing.{frameScan};
-ghost use Rattle.stuffing.specs.declared.Stop.the-variants.{Ended};
-ghost use Rattle.serial.specs.Frames.{frontLength, idField, addressField, sourced, frameBody, closed, frameRead};
+ghost use lib.ListN.{length, drop};
+ghost use Rattle.message_rules.specs.Answer.{readResult, within, counted, outputAfter, given};
+ghost use Rattle.serial_rules.specs.Stuffing.{frameScan};
+ghost use Rattle.serial_rules.specs.Frames.{frontLength, idField, addressField, kindRead, frameBody, rowRead, frameRead};
+ghost use Rattle.serial_reader.specs.Undouble.{Whole};
 use crate::kind::kind_of;
 use crate::undouble::body_byte;
 use crate::undouble::skip;
 use crate::undouble::undouble;
-use message::ErrorByte;
-use message::Kind;
-use message::Message;
-use message::ReadAnswer;
-use message::Refusal;
-use message::Verdict;
-use serial::IdKind;
-use serial::Row;
-use serial::SerialLink;
-use serial::StartRow;
-use serial_head::escape;
-use serial_head::front_length;
-use serial_head::source_legal;
-use serial_head::start_row;
-use stuffing::Stop;
-use stuffing::scan;
+use message_rules::ErrorByte;
+use message_rules::Kind;
+use message_rules::KindLookup;
+use message_rules::Message;
+use message_rules::ReadAnswer;
+use message_rules::Refusal;
+use message_rules::Verdict;
+use serial_fields::address_length;
+use serial_fields::escape;
+use serial_fields::id_length;
+use serial_fields::source_legal;
+use serial_fields::start_row;
+use serial_rules::RowLookup;
+use serial_rules::SerialLink;
+use serial_rules::StartRow;
+use serial_rules::Stop;
+use serial_scan::scan;
 
 // Reads one frame that is the whole input; its payload goes to the start of out.
 pub fn read(link: SerialLink, bytes: &[u8], out: &mut [u8]) -> ReadAnswer
-    ensures { λ r. ⌜ readTold r ≡ counted (within (now (out .entry)) (frameRead link (now (bytes .entry)))) ⌝ }
-    ensures { λ _. ⌜ now (out .exit) ≡ laid (within (now (out .entry)) (frameRead link (now (bytes .entry)))) (now (out .entry)) ⌝ }
+    ensures { λ r. ⌜ readResult r ≡ counted (within (now (out .entry)) (frameRead link (now (bytes .entry)))) ⌝ }
+    ensures { λ _. ⌜ now (out .exit) ≡ outputAfter (within (now (out .entry)) (frameRead link (now (bytes .entry)))) (now (out .entry)) ⌝ }
 {
     if bytes.len() < 1 {
         return ReadAnswer::Refused(Refusal::Truncated);
@@ -44,18 +44,18 @@ pub fn read(link: SerialLink, bytes: &[u8], out: &mut [u8]) -> ReadAnswer
         return ReadAnswer::Refused(Refusal::Truncated);
     }
     match start_row(link, bytes[1]) {
-        StartRow::Unknown => ReadAnswer::Refused(Refusal::UnknownStart),
-        StartRow::Known(row) => read_started(link, row, bytes, out),
+        RowLookup::Unknown => ReadAnswer::Refused(Refusal::UnknownStart),
+        RowLookup::Known(row) => read_started(link, row, bytes, out),
     }
 }
 
-// Reads behind a start byte of the link: the frame must end where the input ends.
-fn read_started(link: SerialLink, row: Row, bytes: &[u8], out: &mut [u8]) -> ReadAnswer
+// Reads after a start byte of the link: the frame must end where the input ends.
+fn read_started(link: SerialLink, row: StartRow, bytes: &[u8], out: &mut [u8]) -> ReadAnswer
     requires { ⌜ 2 ≤ length (now bytes) ⌝ }
-    ensures { λ r. ⌜ readTold r ≡ counted (within (now (out .entry)) (closed link row (frameScan (now (bytes .entry)) .stop) (frameScan (now (bytes .entry)) .passed) (length (drop 2 (now (bytes .entry)))) (frameScan (now (bytes .entry)) .body))) ⌝ }
-    ensures { λ _. ⌜ now (out .exit) ≡ laid (within (now (out .entry)) (closed link row (frameScan (now (bytes .entry)) .stop) (frameScan (now (bytes .entry)) .passed) (length (drop 2 (now (bytes .entry)))) (frameScan (now (bytes .entry)) .body))) (now (out .entry)) ⌝ }
+    ensures { λ r. ⌜ readResult r ≡ counted (within (now (out .entry)) (rowRead link row (drop 2 (now (bytes .entry))))) ⌝ }
+    ensures { λ _. ⌜ now (out .exit) ≡ outputAfter (within (now (out .entry)) (rowRead link row (drop 2 (now (bytes .entry))))) (now (out .entry)) ⌝ }
 {
-    let scanned = scan(bytes, 2);
+    let scanned = scan(link, bytes, 2);
     let stop = scanned.stop;
     match stop {
         Stop::Cut => ReadAnswer::Refused(Refusal::Truncated),
@@ -70,66 +70,76 @@ fn read_started(link: SerialLink, row: Row, bytes: &[u8], out: &mut [u8]) -> Rea
 }
 
 // Reads a frame whose body has count bytes, from its fields in front of the data on.
-fn read_frame(link: SerialLink, row: Row, bytes: &[u8], count: usize, out: &mut [u8]) -> ReadAnswer
-    requires { ⌜ frameScan (now bytes) .stop ≡ Ended ⌝ }
-    requires { ⌜ count ≡ length (frameScan (now bytes) .body) ⌝ }
-    ensures { λ r. ⌜ readTold r ≡ counted (within (now (out .entry)) (frameBody link row (frameScan (now (bytes .entry)) .body))) ⌝ }
-    ensures { λ _. ⌜ now (out .exit) ≡ laid (within (now (out .entry)) (frameBody link row (frameScan (now (bytes .entry)) .body))) (now (out .entry)) ⌝ }
+fn read_frame(
+    link: SerialLink,
+    row: StartRow,
+    bytes: &[u8],
+    count: usize,
+    out: &mut [u8],
+) -> ReadAnswer
+    requires { ⌜ Whole (now bytes) count ⌝ }
+    ensures { λ r. ⌜ readResult r ≡ counted (within (now (out .entry)) (frameBody link row (frameScan (now (bytes .entry)) .body))) ⌝ }
+    ensures { λ _. ⌜ now (out .exit) ≡ outputAfter (within (now (out .entry)) (frameBody link row (frameScan (now (bytes .entry)) .body))) (now (out .entry)) ⌝ }
 {
-    let front = front_length(link, row);
-    if count < front {
+    if count < front_length(link, row) {
         return ReadAnswer::Refused(Refusal::WrongLength);
     }
     let id = id_field(link, row, bytes, count);
     match kind_of(row, id) {
-        IdKind::Unknown => ReadAnswer::Refused(Refusal::IdOutOfRange),
-        IdKind::Known(kind) => read_data(link, kind, id, bytes, count, front, out),
+        KindLookup::Unknown => ReadAnswer::Refused(Refusal::IdOutOfRange),
+        KindLookup::Known(kind) => read_data(link, row, kind, id, bytes, count, out),
     }
+}
+
+// How many bytes stand between the start byte and the data.
+fn front_length(link: SerialLink, row: StartRow) -> usize
+    ensures { λ r. ⌜ r ≡ frontLength link row ⌝ }
+{
+    id_length(row) + address_length(link)
 }
 
 // The ID of a body; an event has none and reads as 255.
-fn id_field(link: SerialLink, row: Row, bytes: &[u8], count: usize) -> u8
+fn id_field(link: SerialLink, row: StartRow, bytes: &[u8], count: usize) -> u8
     requires { ⌜ count ≡ length (frameScan (now bytes) .body) ⌝ }
     ensures { λ r. ⌜ r ≡ idField row (frameScan (now (bytes .entry)) .body) ⌝ }
 {
-    match row {
-        Row::Request => body_byte(link, bytes, 2, count, 0),
-        Row::Reply => body_byte(link, bytes, 2, count, 0),
-        Row::Nack => body_byte(link, bytes, 2, count, 0),
-        Row::Event => 255,
+    if id_length(row) == 0 {
+        return 255;
     }
+    body_byte(link, bytes, 2, count, 0)
 }
 
-// The address at a place of a body; UART carries none, and it reads as 0.
-fn address_field(link: SerialLink, bytes: &[u8], count: usize, i: usize) -> u8
+// The source (0) or the destination (1) of a body; UART carries none, and it reads as 0.
+fn address_field(link: SerialLink, row: StartRow, bytes: &[u8], count: usize, i: usize) -> u8
     requires { ⌜ count ≡ length (frameScan (now bytes) .body) ⌝ }
-    ensures { λ r. ⌜ r ≡ addressField link (frameScan (now (bytes .entry)) .body) i ⌝ }
+    requires { ⌜ i ≤ 1 ⌝ }
+    ensures { λ r. ⌜ r ≡ addressField link row (frameScan (now (bytes .entry)) .body) i ⌝ }
 {
-    match link {
-        SerialLink::Uart => 0,
-        SerialLink::Rs485 => body_byte(link, bytes, 2, count, i),
+    if address_length(link) == 0 {
+        return 0;
     }
+    body_byte(link, bytes, 2, count, id_length(row) + i)
 }
 
-// Reads the data of a body, which stands behind `front` bytes, as a message of a kind.
+// Reads a body whose ID decided for a kind.
 fn read_data(
     link: SerialLink,
+    row: StartRow,
     kind: Kind,
     id: u8,
     bytes: &[u8],
     count: usize,
-    front: usize,
     out: &mut [u8],
 ) -> ReadAnswer
-    requires { ⌜ frameScan (now bytes) .stop ≡ Ended ⌝ }
-    requires { ⌜ count ≡ length (frameScan (now bytes) .body) ⌝ }
-    requires { ⌜ front ≤ count ⌝ }
-    requires { ⌜ front ≤ 3 ⌝ }
-    ensures { λ r. ⌜ readTold r ≡ counted (within (now (out .entry)) (sourced link (bodyRead kind id (addressField link (frameScan (now (bytes .entry)) .body) 1) (addressField link (frameScan (now (bytes .entry)) .body) 2) (drop front (frameScan (now (bytes .entry)) .body))))) ⌝ }
-    ensures { λ _. ⌜ now (out .exit) ≡ laid (within (now (out .entry)) (sourced link (bodyRead kind id (addressField link (frameScan (now (bytes .entry)) .body) 1) (addressField link (frameScan (now (bytes .entry)) .body) 2) (drop front (frameScan (now (bytes .entry)) .body))))) (now (out .entry)) ⌝ }
+    requires { ⌜ Whole (now bytes) count ⌝ }
+    requires { ⌜ id ≡ idField row (frameScan (now bytes) .body) ⌝ }
+    requires { ⌜ frontLength link row ≤ count ⌝ }
+    ensures { λ r. ⌜ readResult r ≡ counted (within (now (out .entry)) (kindRead link row kind (frameScan (now (bytes .entry)) .body))) ⌝ }
+    ensures { λ _. ⌜ now (out .exit) ≡ outputAfter (within (now (out .entry)) (kindRead link row kind (frameScan (now (bytes .entry)) .body))) (now (out .entry)) ⌝ }
 {
-    let source = address_field(link, bytes, count, 1);
-    let destination = address_field(link, bytes, count, 2);
+    let front = front_length(link, row);
+    let source = address_field(link, row, bytes, count, 0);
+    let destination = address_field(link, row, bytes, count, 1);
     let error = ErrorByte::Told(body_byte(link, bytes, 2, count, front));
     let index = body_byte(link, bytes, 2, count, front + 1);
     let raw = Message {
@@ -140,20 +150,20 @@ fn read_data(
         error,
         index,
     };
-    let message = fields::carried(raw);
-    match checks::check_body(message, count - front) {
+    let message = message_fields::error_fields_carried(raw);
+    match message_checks::check_data(message, count - front) {
         Verdict::Refused(refusal) => ReadAnswer::Refused(refusal),
         Verdict::Passed => {
             if !source_legal(link, source) {
                 return ReadAnswer::Refused(Refusal::IllegalValue);
             }
-            let skipped = front + kinds::error_length(kind);
+            let skipped = front + message_fields::error_length(kind);
             read_payload(link, message, bytes, count, skipped, out)
         }
     }
 }
 
-// Undoubles the payload, which stands behind skipped bytes of the body, into the output.
+// Undoubles the payload, which stands after skipped bytes of the body, into the output.
 fn read_payload(
     link: SerialLink,
     message: Message,
@@ -162,17 +172,16 @@ fn read_payload(
     skipped: usize,
     out: &mut [u8],
 ) -> ReadAnswer
-    requires { ⌜ frameScan (now bytes) .stop ≡ Ended ⌝ }
-    requires { ⌜ count ≡ length (frameScan (now bytes) .body) ⌝ }
+    requires { ⌜ Whole (now bytes) count ⌝ }
     requires { ⌜ skipped ≤ count ⌝ }
-    ensures { λ r. ⌜ readTold r ≡ counted (within (now (out .entry)) (given message (drop skipped (frameScan (now (bytes .entry)) .body)))) ⌝ }
-    ensures { λ _. ⌜ now (out .exit) ≡ laid (within (now (out .entry)) (given message (drop skipped (frameScan (now (bytes .entry)) .body)))) (now (out .entry)) ⌝ }
+    ensures { λ r. ⌜ readResult r ≡ counted (within (now (out .entry)) (given message (drop skipped (frameScan (now (bytes .entry)) .body)))) ⌝ }
+    ensures { λ _. ⌜ now (out .exit) ≡ outputAfter (within (now (out .entry)) (given message (drop skipped (frameScan (now (bytes .entry)) .body)))) (now (out .entry)) ⌝ }
 {
-    let length = count - skipped;
-    if out.len() < length {
+    let size = count - skipped;
+    if out.len() < size {
         return ReadAnswer::Refused(Refusal::OutputTooShort);
     }
     let at = skip(link, bytes, 2, skipped);
     undouble(link, bytes, at, out);
-    ReadAnswer::Message(message, length)
+    ReadAnswer::Message(message, size)
 }

@@ -1,19 +1,18 @@
-// The body of a frame out of its doubled bytes. Positions stand inside a frame; an encoded byte is one byte, or ESC with the byte behind it.
-ghost use Prim.Native.Nat.{_+_, _≤_, _<_};
+// The body of a frame out of its doubled bytes. Places stand inside a frame; an encoded byte is one byte, or ESC with the byte after it.
+ghost use Prim.Native.Nat.{_+_, _≤_};
 ghost use mathlib.Core.Path.{_≡_};
 ghost use mathlib.Core.List.{_++_};
 ghost use lib.ListN.{length, getD, drop};
-ghost use lib.Seq.{sets};
-ghost use Rattle.stuffing.specs.Stuffing.{scan};
-ghost use Rattle.stuffing.specs.declared.Stop.the-variants.{Ended};
-use serial::SerialLink;
-use serial_head::escape;
-use serial_head::tail;
+ghost use Rattle.serial_rules.specs.Stuffing.{scan};
+ghost use Rattle.serial_reader.specs.Undouble.{Skipped, Fits, AtEscape, stored};
+use serial_fields::escape;
+use serial_fields::tail;
+use serial_rules::SerialLink;
 
-// The place behind n encoded bytes.
+// The place after n encoded bytes.
 pub(crate) fn skip(link: SerialLink, bytes: &[u8], from: usize, n: usize) -> usize
     requires { ⌜ n ≤ length (scan (drop from (now bytes)) .body) ⌝ }
-    ensures { λ r. ⌜ (scan (drop r (now (bytes .entry))) .body ≡ drop n (scan (drop from (now (bytes .entry))) .body)) × (scan (drop r (now (bytes .entry))) .stop ≡ scan (drop from (now (bytes .entry))) .stop) × (r + scan (drop r (now (bytes .entry))) .passed ≡ from + scan (drop from (now (bytes .entry))) .passed) ⌝ }
+    ensures { λ r. ⌜ Skipped (now (bytes .entry)) from n r ⌝ }
 {
     let esc = escape(link);
     let mut at = from;
@@ -51,8 +50,8 @@ pub(crate) fn copy_plain(
     out: &mut [u8],
     to: usize,
 ) -> usize
-    requires { ⌜ (scan (drop from (now bytes)) .stop ≡ Ended) × (to + length (scan (drop from (now bytes)) .body) ≤ length (now out)) ⌝ }
-    ensures { λ r. ⌜ (from + r + 1 < length (now (bytes .entry))) × (getD (now (bytes .entry)) (from + r) 0 ≡ 0x1F) × (scan (drop (from + r) (now (bytes .entry))) .stop ≡ Ended) × (to + r + length (scan (drop (from + r) (now (bytes .entry))) .body) ≤ length (now (out .exit))) × (sets (now (out .exit)) (to + r) (scan (drop (from + r) (now (bytes .entry))) .body) ≡ sets (now (out .entry)) to (scan (drop from (now (bytes .entry))) .body)) ⌝ }
+    requires { ⌜ Fits (now bytes) (now out) from to ⌝ }
+    ensures { λ r. ⌜ AtEscape (now (bytes .entry)) (stored (now (bytes .entry)) from (now (out .entry)) to) (now (out .exit)) (from + r) (to + r) ⌝ }
 {
     let esc = escape(link);
     let mut n = 0;
@@ -69,7 +68,7 @@ pub(crate) fn copy_plain(
 // Stores the body that stands from a place on to the tail over the start of out. The plain bytes between two ESC are copied by a
 // loop of their own: its next place does not depend on the byte just read.
 pub(crate) fn undouble(link: SerialLink, bytes: &[u8], from: usize, out: &mut [u8])
-    requires { ⌜ (scan (drop from (now bytes)) .stop ≡ Ended) × (length (scan (drop from (now bytes)) .body) ≤ length (now out)) ⌝ }
+    requires { ⌜ Fits (now bytes) (now out) from 0 ⌝ }
     ensures { λ _. ⌜ now (out .exit) ≡ scan (drop from (now (bytes .entry))) .body ++ drop (length (scan (drop from (now (bytes .entry))) .body)) (now (out .entry)) ⌝ }
 {
     let esc = escape(link);

@@ -1,58 +1,42 @@
--- The laws of a frame's parts: which fields it has, by the case of link and row, and what a run of stores leaves, by the law of one put after another.
-use Prim.Native.Nat.{ℕ, zero, suc, _+_}
+-- The laws of a frame's parts: which fields it has, by their lengths, and what a run of stores leaves, by the law of one put after another.
+use Prim.Native.Nat.{ℕ, _+_}
 use mathlib.Core.List.{List, [], _∷_, _++_}
-use mathlib.Core.Path.{_≡_, refl, _∙_}
+use mathlib.Core.Path.{_≡_, sym, _∙_}
 use native.Mathlib.Numerals.{add-one}
 use native.Mathlib.Omega.{arith}
 use lib.ListN.{length, set, length-append, length-set}
 use lib.Seq.{sets, length-sets, take-all}
-use Rattle.message.specs.Body.{errorNumber, errorBytes}
-use Rattle.message.specs.Kinds.{errorLength}
-use Rattle.message.specs.declared.Message.{Message}
-use Rattle.stuffing.specs.Stuffing.{doubled}
-use Rattle.serial.specs.Frames.{startByte, rowOf, frontLength, frontFields, frameBytes}
-use Rattle.serial.proofs.Lengths.{frame-parts}
-use Rattle.serial.specs.declared.Row.{Row}
-use Rattle.serial.specs.declared.Row.the-variants.{Request, Reply, Nack, Event}
-use Rattle.serial.specs.declared.SerialLink.{SerialLink}
-use Rattle.serial.specs.declared.SerialLink.the-variants.{Uart, Rs485}
-use Rattle.message.proofs.Stores.{Put, sets-append}
+use Rattle.message_rules.specs.Data.{errorNumber, errorBytes}
+use Rattle.message_rules.specs.Kinds.{errorLength}
+use Rattle.message_rules.specs.declared.Message.{Message}
+use Rattle.message_rules.proofs.Stores.{Put, sets-append}
+use Rattle.serial_rules.specs.Stuffing.{doubled}
+use Rattle.serial_rules.specs.Frames.{startByte, rowOf, hasId, hasAddresses, idLength, addressLength, idBytes, addressBytes, frontFields, frameBytes}
+use Rattle.serial_rules.specs.declared.SerialLink.{SerialLink}
+use Rattle.serial_rules.specs.declared.StartRow.{StartRow}
+use Rattle.serial_rules.proofs.Lengths.{frame-parts}
+use Rattle.serial_rules.proofs.Tables.{field-none, field-some}
 use Rattle.serial_writer.proofs.Putting.{put-doubled}
 
--- The fields by their count: none, the ID, or the ID and both addresses.
-abbrev fieldsOf : ℕ → Message → List ℕ
-fieldsOf zero m = []
-fieldsOf (suc zero) m = m .id ∷ []
-fieldsOf (suc (suc n)) m = m .id ∷ m .source ∷ m .destination ∷ []
+-- The ID by its length: none, or one byte.
+module _ (m : Message) (r : StartRow) (n : ℕ) (row : r ≡ rowOf (m .kind)) (size : n ≡ idLength r) where
+  pub id-none : n ≡ 0 → idBytes (rowOf (m .kind)) m ≡ []
+  unfolding idBytes
+  id-none e = rw (← row, field-none (hasId r) 1 (omega arith) (sym size ∙ e))
 
-front-fields : (l : SerialLink) (r : Row) (m : Message) → frontFields l r m ≡ fieldsOf (frontLength l r) m
-unfolding frontFields
-front-fields Uart Request m = refl
-front-fields Uart Reply m = refl
-front-fields Uart Nack m = refl
-front-fields Uart Event m = refl
-front-fields Rs485 Request m = refl
-front-fields Rs485 Reply m = refl
-front-fields Rs485 Nack m = refl
-front-fields Rs485 Event m = refl
+  pub id-one : (n ≡ 0 → ⊥) → idBytes (rowOf (m .kind)) m ≡ m .id ∷ []
+  unfolding idBytes
+  id-one e = rw (← row, field-some (hasId r) 1 (λ z. e (size ∙ z)))
 
-module _ (l : SerialLink) (m : Message) (r : Row) (n : ℕ) (row : r ≡ rowOf (m .kind)) (size : n ≡ frontLength l r) where
-  counted-fields : frontFields l (rowOf (m .kind)) m ≡ fieldsOf n m
-  counted-fields = rw (size, row) (front-fields l (rowOf (m .kind)) m)
+-- The addresses by their length: none, or both.
+module _ (l : SerialLink) (m : Message) (n : ℕ) (size : n ≡ addressLength l) where
+  pub addresses-none : n ≡ 0 → addressBytes l m ≡ []
+  unfolding addressBytes
+  addresses-none e = rw (field-none (hasAddresses l) 2 (omega arith) (sym size ∙ e))
 
-  pub fields-none : n ≡ 0 → frontFields l (rowOf (m .kind)) m ≡ []
-  fields-none e = rw (counted-fields, e)
-
-  pub fields-one : n ≡ 1 → frontFields l (rowOf (m .kind)) m ≡ m .id ∷ []
-  fields-one e = rw (counted-fields, e)
-
-  pub fields-all : (n ≡ 0 → ⊥) → (n ≡ 1 → ⊥) → frontFields l (rowOf (m .kind)) m ≡ m .id ∷ m .source ∷ m .destination ∷ []
-  fields-all h k = counted-fields ∙ many n h k
-    where
-      many : (i : ℕ) → (i ≡ 0 → ⊥) → (i ≡ 1 → ⊥) → fieldsOf i m ≡ m .id ∷ m .source ∷ m .destination ∷ []
-      many zero h k = absurd (h refl)
-      many (suc zero) h k = absurd (k refl)
-      many (suc (suc i)) h k = refl
+  pub addresses-both : (n ≡ 0 → ⊥) → addressBytes l m ≡ m .source ∷ m .destination ∷ []
+  unfolding addressBytes
+  addresses-both e = rw (field-some (hasAddresses l) 2 (λ z. e (size ∙ z)))
 
 -- What tells the error, by its count.
 module _ (m : Message) (n : ℕ) (size : n ≡ errorLength (m .kind)) where
@@ -79,7 +63,7 @@ module _ (l : SerialLink) (m : Message) (p : List ℕ) where
   abbrev fields : List ℕ
   fields = frontFields l (rowOf (m .kind)) m
 
-  -- The start, what was put behind it part by part, and the tail.
+  -- The start, what was put after it part by part, and the tail.
   pub frame-stored : (out first second left : List ℕ) (i j n : ℕ)
       → Put (set (set out 0 0x1F) 1 (startByte l (rowOf (m .kind)))) 2 (doubled fields) i first → Put first i (doubled (errorBytes m)) j second → Put second j (doubled p) n left
       → Stored (frameBytes l m p) out left n

@@ -4,9 +4,9 @@ ghost use mathlib.Core.Path.{_≡_};
 ghost use mathlib.Core.List.{[], _∷_};
 ghost use lib.ListN.{length};
 ghost use lib.Seq.{sets};
-ghost use Rattle.stuffing.specs.Stuffing.{doubled};
-use serial::SerialLink;
-use serial_head::escape;
+ghost use Rattle.serial_rules.specs.Stuffing.{doubled};
+use serial_fields::escape;
+use serial_rules::SerialLink;
 
 // How many bytes one byte takes.
 pub(crate) fn byte_length(link: SerialLink, b: u8) -> usize
@@ -28,7 +28,7 @@ pub(crate) fn doubled_length(link: SerialLink, bytes: &[u8]) -> usize
     n
 }
 
-// Puts one byte at a place of out that has room for it, and gives the place behind it.
+// Puts one byte at a place of out that has room for it, and gives the place after it.
 pub(crate) fn put(link: SerialLink, b: u8, out: &mut [u8], at: usize) -> usize
     requires { ⌜ at + length (doubled (b ∷ [])) ≤ length (now out) ⌝ }
     ensures { λ r. ⌜ r ≡ at + length (doubled (b ∷ [])) ⌝ }
@@ -42,7 +42,7 @@ pub(crate) fn put(link: SerialLink, b: u8, out: &mut [u8], at: usize) -> usize
     at + 2
 }
 
-// Puts the bytes at a place of out that has room for them, and gives the place behind them.
+// Puts the bytes at a place of out that has room for them, and gives the place after them.
 pub(crate) fn double(link: SerialLink, bytes: &[u8], out: &mut [u8], at: usize) -> usize
     requires { ⌜ at + length (doubled (now bytes)) ≤ length (now out) ⌝ }
     ensures { λ r. ⌜ r ≡ at + length (doubled (now (bytes .entry))) ⌝ }

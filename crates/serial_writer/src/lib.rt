@@ -1,5 +1,6 @@
-// Writing a message as a frame of UART or RS485, by the rules of `serial`.
+// Writing a message as a frame of UART or RS485, by the rules of `serial_rules`.
 mod double;
+mod front;
 mod start;
 mod writer;
 

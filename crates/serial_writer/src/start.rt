@@ -1,44 +1,44 @@
 // The start byte of a written frame, and what its link carries.
 ghost use mathlib.Core.Path.{_≡_};
-ghost use Rattle.serial.specs.Frames.{startByte, rowOf, carries};
-use message::Carries;
-use message::Kind;
-use serial::Row;
-use serial::SerialLink;
-use stuffing::Rs485;
-use stuffing::Uart;
+ghost use Rattle.serial_rules.specs.Frames.{startByte, rowOf, carries};
+use message_rules::Carries;
+use message_rules::Kind;
+use serial_fields::Rs485;
+use serial_fields::Uart;
+use serial_rules::SerialLink;
+use serial_rules::StartRow;
 
-pub(crate) fn start_byte(link: SerialLink, row: Row) -> u8
+pub(crate) fn start_byte(link: SerialLink, row: StartRow) -> u8
     ensures { λ r. ⌜ r ≡ startByte link row ⌝ }
 {
     match link {
         SerialLink::Uart => match row {
-            Row::Request => Uart::REQUEST,
-            Row::Reply => Uart::REPLY,
-            Row::Nack => Uart::NACK,
-            Row::Event => Uart::EVENT,
+            StartRow::Request => Uart::REQUEST,
+            StartRow::Reply => Uart::REPLY,
+            StartRow::Nack => Uart::NACK,
+            StartRow::Event => Uart::EVENT,
         },
         SerialLink::Rs485 => match row {
-            Row::Request => Rs485::REQUEST,
-            Row::Reply => Rs485::REPLY,
-            Row::Nack => Rs485::NACK,
+            StartRow::Request => Rs485::REQUEST,
+            StartRow::Reply => Rs485::REPLY,
+            StartRow::Nack => Rs485::NACK,
             // RS485 has no event: this is never written.
-            Row::Event => 0,
+            StartRow::Event => 0,
         },
     }
 }
 
-pub(crate) fn row_of(kind: Kind) -> Row
+pub(crate) fn row_of(kind: Kind) -> StartRow
     ensures { λ r. ⌜ r ≡ rowOf kind ⌝ }
 {
     match kind {
-        Kind::Telecommand => Row::Request,
-        Kind::TelecommandAck => Row::Reply,
-        Kind::TelecommandNack => Row::Nack,
-        Kind::TelemetryRequest => Row::Request,
-        Kind::TelemetryResponse => Row::Reply,
-        Kind::TelemetryNack => Row::Nack,
-        Kind::Event => Row::Event,
+        Kind::Telecommand => StartRow::Request,
+        Kind::TelecommandAck => StartRow::Reply,
+        Kind::TelecommandNack => StartRow::Nack,
+        Kind::TelemetryRequest => StartRow::Request,
+        Kind::TelemetryResponse => StartRow::Reply,
+        Kind::TelemetryNack => StartRow::Nack,
+        Kind::Event => StartRow::Event,
     }
 }
 
@@ -48,11 +48,11 @@ pub(crate) fn carries(link: SerialLink) -> Carries
     match link {
         SerialLink::Uart => Carries {
             events: true,
-            untold: false,
+            errors: true,
         },
         SerialLink::Rs485 => Carries {
             events: false,
-            untold: false,
+            errors: true,
         },
     }
 }

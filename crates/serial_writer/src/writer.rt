@@ -3,33 +3,34 @@ ghost use Prim.Native.Nat.{_+_, _≤_};
 ghost use mathlib.Core.Path.{_≡_};
 ghost use lib.ListN.{length};
 ghost use lib.Seq.{sets};
-ghost use Rattle.message.specs.Answer.{writeTold, passed, require, after, within, counted, laid, written};
-ghost use Rattle.message.specs.Body.{errorBytes};
-ghost use Rattle.stuffing.specs.Stuffing.{doubled};
-ghost use Rattle.serial.specs.Frames.{rowOf, sourceLegal, frontFields, frameBytes, frameWrite};
+ghost use Rattle.message_rules.specs.Answer.{writeResult, within, counted, outputAfter};
+ghost use Rattle.message_rules.specs.Data.{errorBytes};
+ghost use Rattle.serial_rules.specs.Stuffing.{doubled};
+ghost use Rattle.serial_rules.specs.Frames.{frameBytes, checkedFrame, frameWrite};
 use crate::double::byte_length;
 use crate::double::double;
 use crate::double::doubled_length;
 use crate::double::put;
+use crate::front::fields_length;
+use crate::front::put_fields;
 use crate::start::carries;
 use crate::start::row_of;
 use crate::start::start_byte;
-use message::Message;
-use message::Refusal;
-use message::Verdict;
-use message::WriteAnswer;
-use serial::SerialLink;
-use serial_head::escape;
-use serial_head::front_length;
-use serial_head::source_legal;
-use serial_head::tail;
+use message_rules::Message;
+use message_rules::Refusal;
+use message_rules::Verdict;
+use message_rules::WriteAnswer;
+use serial_fields::escape;
+use serial_fields::source_legal;
+use serial_fields::tail;
+use serial_rules::SerialLink;
 
 // Writes a message with its payload as a frame to the start of out.
 pub fn write(link: SerialLink, message: Message, payload: &[u8], out: &mut [u8]) -> WriteAnswer
-    ensures { λ r. ⌜ writeTold r ≡ counted (within (now (out .entry)) (frameWrite link message (now (payload .entry)))) ⌝ }
-    ensures { λ _. ⌜ now (out .exit) ≡ laid (within (now (out .entry)) (frameWrite link message (now (payload .entry)))) (now (out .entry)) ⌝ }
+    ensures { λ r. ⌜ writeResult r ≡ counted (within (now (out .entry)) (frameWrite link message (now (payload .entry)))) ⌝ }
+    ensures { λ _. ⌜ now (out .exit) ≡ outputAfter (within (now (out .entry)) (frameWrite link message (now (payload .entry)))) (now (out .entry)) ⌝ }
 {
-    match checks::check_written(carries(link), message, payload.len()) {
+    match message_checks::check_written(carries(link), message, payload.len()) {
         Verdict::Refused(refusal) => WriteAnswer::Refused(refusal),
         Verdict::Passed => write_checked(link, message, payload, out),
     }
@@ -38,8 +39,8 @@ pub fn write(link: SerialLink, message: Message, payload: &[u8], out: &mut [u8])
 // Writes a message that passed the checks that all links share; they allow a payload of at most 256 bytes.
 fn write_checked(link: SerialLink, message: Message, payload: &[u8], out: &mut [u8]) -> WriteAnswer
     requires { ⌜ length (now payload) ≤ 256 ⌝ }
-    ensures { λ r. ⌜ writeTold r ≡ counted (within (now (out .entry)) (after (require (sourceLegal link (message .source)) 7 passed) (written (frameBytes link message (now (payload .entry)))))) ⌝ }
-    ensures { λ _. ⌜ now (out .exit) ≡ laid (within (now (out .entry)) (after (require (sourceLegal link (message .source)) 7 passed) (written (frameBytes link message (now (payload .entry)))))) (now (out .entry)) ⌝ }
+    ensures { λ r. ⌜ writeResult r ≡ counted (within (now (out .entry)) (checkedFrame link message (now (payload .entry)))) ⌝ }
+    ensures { λ _. ⌜ now (out .exit) ≡ outputAfter (within (now (out .entry)) (checkedFrame link message (now (payload .entry)))) (now (out .entry)) ⌝ }
 {
     if !source_legal(link, message.source) {
         return WriteAnswer::Refused(Refusal::IllegalValue);
@@ -59,33 +60,17 @@ fn frame_length(link: SerialLink, message: Message, payload: &[u8]) -> usize
     4 + fields + error + doubled_length(link, payload)
 }
 
-// How many bytes the fields in front of the data take: at most three, each doubled.
-fn fields_length(link: SerialLink, message: Message) -> usize
-    ensures { λ r. ⌜ (r ≡ length (doubled (frontFields link (rowOf (message .kind)) message))) × (r ≤ 6) ⌝ }
-{
-    let kind = message.kind;
-    let fields = front_length(link, row_of(kind));
-    if fields == 0 {
-        return 0;
-    }
-    let id = byte_length(link, message.id);
-    if fields == 1 {
-        return id;
-    }
-    id + byte_length(link, message.source) + byte_length(link, message.destination)
-}
-
 // How many bytes tell the error: at most two, each doubled.
 fn error_bytes_length(link: SerialLink, message: Message) -> usize
     ensures { λ r. ⌜ (r ≡ length (doubled (errorBytes message))) × (r ≤ 4) ⌝ }
 {
     let kind = message.kind;
-    let tells = kinds::error_length(kind);
+    let tells = message_fields::error_length(kind);
     if tells == 0 {
         return 0;
     }
     let error = message.error;
-    let first = byte_length(link, fields::error_number(error));
+    let first = byte_length(link, message_fields::error_number(error));
     if tells == 1 {
         return first;
     }
@@ -110,38 +95,19 @@ fn put_frame(link: SerialLink, message: Message, payload: &[u8], out: &mut [u8])
     end + 2
 }
 
-// Puts the fields in front of the data, and gives the place behind them.
-fn put_fields(link: SerialLink, message: Message, out: &mut [u8], at: usize) -> usize
-    requires { ⌜ at + length (doubled (frontFields link (rowOf (message .kind)) message)) ≤ length (now out) ⌝ }
-    ensures { λ r. ⌜ r ≡ at + length (doubled (frontFields link (rowOf (message .kind)) message)) ⌝ }
-    ensures { λ _. ⌜ now (out .exit) ≡ sets (now (out .entry)) at (doubled (frontFields link (rowOf (message .kind)) message)) ⌝ }
-{
-    let kind = message.kind;
-    let fields = front_length(link, row_of(kind));
-    if fields == 0 {
-        return at;
-    }
-    if fields == 1 {
-        return put(link, message.id, out, at);
-    }
-    let source = put(link, message.id, out, at);
-    let destination = put(link, message.source, out, source);
-    put(link, message.destination, out, destination)
-}
-
-// Puts what tells the error, and gives the place behind it.
+// Puts what tells the error, and gives the place after it.
 fn put_error(link: SerialLink, message: Message, out: &mut [u8], at: usize) -> usize
     requires { ⌜ at + length (doubled (errorBytes message)) ≤ length (now out) ⌝ }
     ensures { λ r. ⌜ r ≡ at + length (doubled (errorBytes message)) ⌝ }
     ensures { λ _. ⌜ now (out .exit) ≡ sets (now (out .entry)) at (doubled (errorBytes message)) ⌝ }
 {
     let kind = message.kind;
-    let tells = kinds::error_length(kind);
+    let tells = message_fields::error_length(kind);
     if tells == 0 {
         return at;
     }
     let error = message.error;
-    let number = fields::error_number(error);
+    let number = message_fields::error_number(error);
     if tells == 1 {
         return put(link, number, out, at);
     }

@@ -3,8 +3,8 @@ use borrow.Author.Needs.{needs}
 use native.Mathlib.Omega.{arith}
 use lib.ListN.{length-set}
 use Prim.Native.Nat.{_≤_}
-use Rattle.csp.specs.Csp.{cspHead}
-use Rattle.message.specs.Body.{errorBytes}
+use Rattle.csp_rules.specs.Csp.{cspHead}
+use Rattle.message_rules.specs.Data.{errorBytes}
 use lib.Seq.{take-all}
 use Rattle.csp_writer.proofs.put_head.Statement.{statement}
 use Rattle.csp_writer.proofs.put_head.Tie as tie

@@ -1,8 +1,8 @@
 -- Carried by what the checks answer, in each of its cases.
 use borrow.Author.Needs.{needs}
 use mathlib.Core.Path.{refl}
-use Rattle.message.specs.Answer.{verdictTold, writeTold, after, within, counted, laid}
-use Rattle.csp.specs.Csp.{cspWrite}
+use Rattle.message_rules.specs.Answer.{verdictResult, writeResult, after, within, counted, outputAfter}
+use Rattle.csp_rules.specs.Csp.{cspWrite}
 use Rattle.csp_writer.proofs.write.Statement.{statement}
 use Rattle.csp_writer.proofs.write.Tie as tie
 
@@ -19,14 +19,14 @@ write-checked-requires : tie.Need-write-checked-requires
 write-checked-requires c κs = search needs
 
 returns : tie.Need-returns
-unfolding cspWrite verdictTold after within counted laid writeTold
+unfolding cspWrite verdictResult after within counted outputAfter writeResult
 returns c = rw (← c .before .before .before .check-written .ensures, c .before .refusal .given .1) (refl, refl)
 
 same-length : tie.Need-same-length
 same-length c = search needs
 
 returns-2 : tie.Need-returns-2
-unfolding cspWrite verdictTold after
+unfolding cspWrite verdictResult after
 returns-2 c = rw (← c .before .before .before .before .before .before .check-written .ensures, c .before .before .before .before .enum-told .given .1) (c .before .before .write-checked .ensures)
 
 pub write-spec : {M : Type 1} → statement M

@@ -1,6 +1,6 @@
 -- Carried by the link: each arm is that link's own function.
 use borrow.Author.Needs.{needs}
-use Rattle.link.specs.Link.{linkRead}
+use Rattle.link_rules.specs.Link.{linkRead}
 use Rattle.link_reader.proofs.read.Statement.{statement}
 use Rattle.link_reader.proofs.read.Tie as tie
 

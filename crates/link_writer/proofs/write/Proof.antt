@@ -1,6 +1,6 @@
 -- Carried by the link: each arm is that link's own function.
 use borrow.Author.Needs.{needs}
-use Rattle.link.specs.Link.{linkWrite}
+use Rattle.link_rules.specs.Link.{linkWrite}
 use Rattle.link_writer.proofs.write.Statement.{statement}
 use Rattle.link_writer.proofs.write.Tie as tie
 

@@ -1,6 +1,6 @@
 -- Carried by the state.
 use borrow.Author.Needs.{needs}
-use Rattle.upload.specs.Sender.{framesKnown}
+use Rattle.sender_rules.specs.Sender.{framesKnown}
 use Rattle.sender_state.proofs.frames_known.Statement.{statement}
 use Rattle.sender_state.proofs.frames_known.Tie as tie
 

@@ -1,6 +1,6 @@
 -- Carried by the two tables of the stage.
 use borrow.Author.Needs.{needs}
-use Rattle.upload.specs.Sender.{requestMessage}
+use Rattle.sender_rules.specs.Sender.{requestMessage}
 use Rattle.sender_state.proofs.request_message.Statement.{statement}
 use Rattle.sender_state.proofs.request_message.Tie as tie
 

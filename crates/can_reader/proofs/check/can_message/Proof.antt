@@ -1,5 +1,5 @@
 -- Carried by the fields, each read from its place.
-use Rattle.can.specs.Can.{canMessage}
+use Rattle.can_rules.specs.Can.{canMessage}
 use borrow.Author.Needs.{needs}
 use Rattle.can_reader.proofs.check.can_message.Statement.{statement}
 use Rattle.can_reader.proofs.check.can_message.Tie as tie

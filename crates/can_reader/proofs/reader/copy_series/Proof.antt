@@ -6,19 +6,18 @@ use mathlib.Core.Path.{_≡_, refl, _∙_}
 use native.Mathlib.Omega.{arith}
 use borrow.Author.Needs.{needs}
 use denote.Ref.{now}
-use borrow.Rule.Slice.PartMut.{putMid}
 use lib.ListN.{length, getD, take, drop}
-use lib.Seq.{sets, length-sets}
+use lib.Seq.{length-sets}
 use native.Mathlib.Nat.{add-sub-cancel-left}
-use Rattle.message.specs.Answer.{laid}
-use Rattle.can.specs.Can.{allFrames}
-use Rattle.message.proofs.Parts.{part-from, put-from}
-use Rattle.can_reader.proofs.Reading.{Storing, store-first, store-step, store-last, lay-sets}
+use Rattle.message_rules.specs.Answer.{outputAfter}
+use Rattle.can_rules.specs.Can.{allFrames}
+use Rattle.message_output.proofs.Parts.{put-part}
+use Rattle.can_reader.proofs.Reading.{Storing, store-first, store-step, store-last}
 use Rattle.can_reader.proofs.reader.copy_series.Statement.{statement}
 use Rattle.can_reader.proofs.reader.copy_series.Tie as tie
 
 abbrev Inv-loop : tie.InvT-loop
-Inv-loop bytes size out₀ at₀ to₀ out at to = (length out ≡ length out₀) × Storing bytes (laid (allFrames bytes) out₀) out size at to
+Inv-loop bytes size out₀ at₀ to₀ out at to = (length out ≡ length out₀) × Storing bytes (outputAfter (allFrames bytes) out₀) out size at to
 
 abbrev μ-loop : tie.MeasureT-loop
 μ-loop bytes size out₀ at₀ to₀ out at to = length bytes - at
@@ -42,35 +41,35 @@ cast-n c = let t = store-step _ _ _ _ _ _ (c .before .before .loop .inv .1) (c .
 sub-n : tie.Need-sub-n Inv-loop μ-loop
 sub-n c = let t = store-step _ _ _ _ _ _ (c .before .before .loop .inv .1) (c .before .loop-test .taken) in omega arith
 
-add-lay : tie.Need-add-lay Inv-loop μ-loop
-add-lay c = let t = store-step _ _ _ _ _ _ (c .before .before .loop .inv .1) (c .before .loop-test .taken) in omega arith
+add-put : tie.Need-add-put Inv-loop μ-loop
+add-put c = let t = store-step _ _ _ _ _ _ (c .before .before .loop .inv .1) (c .before .loop-test .taken) in omega arith
 
-add-lay-2 : tie.Need-add-lay-2 Inv-loop μ-loop
-add-lay-2 c = let t = store-step _ _ _ _ _ _ (c .before .before .loop .inv .1) (c .before .loop-test .taken) in omega arith
+add-put-2 : tie.Need-add-put-2 Inv-loop μ-loop
+add-put-2 c = let t = store-step _ _ _ _ _ _ (c .before .before .loop .inv .1) (c .before .loop-test .taken) in omega arith
 
-add-lay-3 : tie.Need-add-lay-3 Inv-loop μ-loop
-add-lay-3 c = let t = store-step _ _ _ _ _ _ (c .before .before .loop .inv .1) (c .before .loop-test .taken) in omega arith
+add-put-3 : tie.Need-add-put-3 Inv-loop μ-loop
+add-put-3 c = let t = store-step _ _ _ _ _ _ (c .before .before .loop .inv .1) (c .before .loop-test .taken) in omega arith
 
-sub-lay : tie.Need-sub-lay Inv-loop μ-loop
-sub-lay c = let t = store-step _ _ _ _ _ _ (c .before .before .loop .inv .1) (c .before .loop-test .taken) in omega arith
+sub-put : tie.Need-sub-put Inv-loop μ-loop
+sub-put c = let t = store-step _ _ _ _ _ _ (c .before .before .loop .inv .1) (c .before .loop-test .taken) in omega arith
 
-part-lay-start : tie.Need-part-lay-start Inv-loop μ-loop
-part-lay-start c = let t = store-step _ _ _ _ _ _ (c .before .before .loop .inv .1) (c .before .loop-test .taken) in omega arith
+part-put-start : tie.Need-part-put-start Inv-loop μ-loop
+part-put-start c = let t = store-step _ _ _ _ _ _ (c .before .before .loop .inv .1) (c .before .loop-test .taken) in omega arith
 
-part-lay-end : tie.Need-part-lay-end Inv-loop μ-loop
-part-lay-end c = let t = store-step _ _ _ _ _ _ (c .before .before .loop .inv .1) (c .before .loop-test .taken) in omega arith
+part-put-end : tie.Need-part-put-end Inv-loop μ-loop
+part-put-end c = let t = store-step _ _ _ _ _ _ (c .before .before .loop .inv .1) (c .before .loop-test .taken) in omega arith
 
-sub-lay-2 : tie.Need-sub-lay-2 Inv-loop μ-loop
-sub-lay-2 c = let t = store-step _ _ _ _ _ _ (c .before .before .before .loop .inv .1) (c .before .before .loop-test .taken) in omega (arith, t .within, c .before .before .before .loop .inv .0, c .before .before .before .before .before .before .pre .2)
+sub-put-2 : tie.Need-sub-put-2 Inv-loop μ-loop
+sub-put-2 c = let t = store-step _ _ _ _ _ _ (c .before .before .before .loop .inv .1) (c .before .before .loop-test .taken) in omega (arith, t .within, c .before .before .before .loop .inv .0, c .before .before .before .before .before .before .pre .2)
 
-part-lay-start-2 : tie.Need-part-lay-start-2 Inv-loop μ-loop
-part-lay-start-2 = sub-lay-2
+part-put-start-2 : tie.Need-part-put-start-2 Inv-loop μ-loop
+part-put-start-2 = sub-put-2
 
-part-lay-end-2 : tie.Need-part-lay-end-2 Inv-loop μ-loop
-part-lay-end-2 c = search needs
+part-put-end-2 : tie.Need-part-put-end-2 Inv-loop μ-loop
+part-put-end-2 c = search needs
 
-lay-requires : tie.Need-lay-requires Inv-loop μ-loop
-lay-requires c κs = search needs
+put-requires : tie.Need-put-requires Inv-loop μ-loop
+put-requires c κs = search needs
 
 add-to : tie.Need-add-to Inv-loop μ-loop
 add-to c = steps (c .before .before .before .before .before .before) .0
@@ -89,8 +88,7 @@ loop-again c =
     let d = take (getD b (l .at + 4) 0 - 1) (drop (l .at + 5) b) in
     let t = store-step _ _ _ _ _ _ (c .before .before .before .before .before .before .before .loop .inv .1) (c .before .before .before .before .before .before .loop-test .taken) in
     let room : l .to + length d ≤ length (l .out) = omega (arith, t .taken, t .within, l .inv .0, s .pre .2) in
-    let e = rw (part-from, add-sub-cancel-left) at (c .before .before .lay .ensures .1) in
-    let stored : putMid (l .to) (length (l .out) - l .to) (l .out) (c .before .before .lay .last .1 .0) ≡ sets (l .out) (l .to) d = put-from (l .to) (l .out) _ (omega (arith, room)) ∙ lay-sets d (l .out) _ (l .to) room e in
+    let stored = put-part d (l .out) _ (l .to) room (rw add-sub-cancel-left at (c .before .before .put .ensures .1)) in
     rw stored (length-sets (l .out) (l .to) d ∙ l .inv .0, t .next)
 
 same-length : tie.Need-same-length Inv-loop μ-loop
@@ -110,16 +108,16 @@ copy-series-spec =
     shared-slice-read-n
     cast-n
     sub-n
-    add-lay
-    add-lay-2
-    add-lay-3
-    sub-lay
-    part-lay-start
-    part-lay-end
-    sub-lay-2
-    part-lay-start-2
-    part-lay-end-2
-    lay-requires
+    add-put
+    add-put-2
+    add-put-3
+    sub-put
+    part-put-start
+    part-put-end
+    sub-put-2
+    part-put-start-2
+    part-put-end-2
+    put-requires
     add-to
     add-at
     loop-less

@@ -2,8 +2,8 @@
 use mathlib.Core.Path.{refl, ap, sym, _∙_}
 use borrow.Author.Needs.{needs}
 use denote.Ref.{now}
-use Rattle.message.specs.Answer.{readTold, within, counted, laid}
-use Rattle.can_frames.specs.Told.{framesTold}
+use Rattle.message_rules.specs.Answer.{readResult, within, counted, outputAfter}
+use Rattle.can_scan.specs.Measured.{framesResult}
 use Rattle.can_reader.proofs.Reading.{frames-refused}
 use Rattle.can_reader.proofs.reader.read.Statement.{statement}
 use Rattle.can_reader.proofs.reader.read.Tie as tie
@@ -18,14 +18,14 @@ enum-known-rest : tie.Need-enum-known-rest
 enum-known-rest c = search needs
 
 read-whole-requires : tie.Need-read-whole-requires
-unfolding framesTold
-read-whole-requires c κs = sym (c .before .before .before .before .scan .ensures) ∙ ap framesTold (c .before .before .rest .given .1)
+unfolding framesResult
+read-whole-requires c κs = sym (c .before .before .before .before .scan .ensures) ∙ ap framesResult (c .before .before .rest .given .1)
 
 returns : tie.Need-returns
-unfolding readTold within counted laid framesTold
+unfolding readResult within counted outputAfter framesResult
 returns c =
     let s = c .before .before .before .before .before .before in
-    rw (frames-refused (now (s .args .bytes)) _ (sym (c .before .before .before .scan .ensures) ∙ ap framesTold (c .before .refusal .given .1))) (refl, refl)
+    rw (frames-refused (now (s .args .bytes)) _ (sym (c .before .before .before .scan .ensures) ∙ ap framesResult (c .before .refusal .given .1))) (refl, refl)
 
 same-length : tie.Need-same-length
 same-length c = search needs

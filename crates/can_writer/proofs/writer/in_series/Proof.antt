@@ -1,6 +1,6 @@
 -- Carried by the test for an event: it alone decides, or the length does.
 use borrow.Author.Needs.{needs}
-use Rattle.can.specs.Can.{inSeries}
+use Rattle.can_rules.specs.Can.{inSeries}
 use Rattle.can_writer.proofs.writer.in_series.Statement.{statement}
 use Rattle.can_writer.proofs.writer.in_series.Tie as tie
 

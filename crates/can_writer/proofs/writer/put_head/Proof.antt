@@ -5,7 +5,7 @@ use native.Mathlib.Numerals.{add-one}
 use Prim.Native.Nat.{suc, _+_}
 use mathlib.Core.Path.{_≡_}
 use lib.ListN.{length-set}
-use Rattle.can.specs.Can.{identifier}
+use Rattle.can_rules.specs.Can.{identifier}
 use Rattle.can_writer.proofs.writer.put_head.Statement.{statement}
 use Rattle.can_writer.proofs.writer.put_head.Tie as tie
 

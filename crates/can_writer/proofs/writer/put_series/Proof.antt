@@ -3,19 +3,20 @@ use mathlib.Core.Path.{refl}
 use native.Mathlib.Omega.{arith}
 use denote.Ref.{now}
 use lib.ListN.{length-take, length-drop}
-use Rattle.can.specs.Can.{identifier}
-use Rattle.can.proofs.Lengths.{identifier-length}
+use Rattle.can_rules.specs.Can.{identifier, framesAfter}
+use Rattle.can_rules.proofs.Lengths.{identifier-length}
 use Rattle.can_writer.proofs.Writing.{Going, series-turn, series-end}
 use Rattle.can_writer.proofs.writer.put_series.Statement.{statement}
 use Rattle.can_writer.proofs.writer.put_series.Tie as tie
 
 abbrev Inv-loop : tie.InvT-loop
-Inv-loop message number payload behind out₀ left₀ done₀ at₀ out left done at = Going (identifier number message) out₀ payload behind out left done at
+Inv-loop message number payload later out₀ left₀ done₀ at₀ out left done at = Going (identifier number message) out₀ payload later out left done at
 
 abbrev μ-loop : tie.MeasureT-loop
-μ-loop message number payload behind out₀ left₀ done₀ at₀ out left done at = left
+μ-loop message number payload later out₀ left₀ done₀ at₀ out left done at = left
 
 loop-holds : tie.Need-loop-holds Inv-loop μ-loop
+unfolding framesAfter
 loop-holds c = record { kept = refl; full = omega arith; last = omega arith; room = omega arith; whole = refl }
 
 add-next : tie.Need-add-next Inv-loop μ-loop

@@ -6,7 +6,7 @@ use native.Mathlib.Nat.{add-zero}
 use native.Mathlib.Omega.{arith}
 use lib.ListN.{length, drop, replicate, length-set, length-replicate, getD-replicate}
 use lib.Seq.{sets}
-use Rattle.message.proofs.Stores.{store-turn, store-end}
+use Rattle.message_rules.proofs.Stores.{store-turn, store-end}
 use Rattle.can_writer.proofs.writer.put_zeros.Statement.{statement}
 use Rattle.can_writer.proofs.writer.put_zeros.Tie as tie
 

@@ -1,8 +1,8 @@
 -- Carried by the test for a series, which picks the bytes.
 use borrow.Author.Needs.{needs}
 use mathlib.Core.Path.{sym, _∙_}
-use Rattle.can.specs.Can.{canBytes}
-use Rattle.can.proofs.Lengths.{single-most}
+use Rattle.can_rules.specs.Can.{canBytes}
+use Rattle.can_rules.proofs.Lengths.{single-most}
 use Rattle.can_writer.proofs.writer.write_checked.Statement.{statement}
 use Rattle.can_writer.proofs.writer.write_checked.Tie as tie
 

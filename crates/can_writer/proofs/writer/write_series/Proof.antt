@@ -1,17 +1,17 @@
 -- Carried by a series' length, and what stores from the start on leave.
 use borrow.Author.Needs.{needs}
 use denote.Ref.{now}
-use Rattle.can.specs.Can.{seriesType, framesBehind}
-use Rattle.can.proofs.Lengths.{message-length}
+use Rattle.can_rules.specs.Can.{seriesType, framesAfter}
+use Rattle.can_rules.proofs.Lengths.{message-length}
 use Rattle.can_writer.proofs.Writing.{refused-short, given-stored}
 use Rattle.can_writer.proofs.writer.write_series.Statement.{statement}
 use Rattle.can_writer.proofs.writer.write_series.Tie as tie
 
-add-length : tie.Need-add-length
-add-length c = search needs
+add-size : tie.Need-add-size
+add-size c = search needs
 
-mul-length : tie.Need-mul-length
-mul-length c = search needs
+mul-size : tie.Need-mul-size
+mul-size c = search needs
 
 returns : tie.Need-returns
 returns c =
@@ -22,13 +22,14 @@ series-type-requires : tie.Need-series-type-requires
 series-type-requires c κs = search needs
 
 put-series-requires : tie.Need-put-series-requires
+unfolding framesAfter
 put-series-requires c κs = search needs
 
 same-length : tie.Need-same-length
 same-length c = search needs
 
 returns-2 : tie.Need-returns-2
-unfolding framesBehind
+unfolding framesAfter
 returns-2 c =
     let a = c .before .before .before .before .before .before .before .before .args in
     given-stored _ _ _ (message-length (seriesType (a .message .kind)) (a .message) (now (a .payload))) _ (c .before .before .before .before .before .if1 .left) (rw (c .before .before .before .before .series-type .ensures) at (c .before .before .put-series .ensures))
@@ -37,8 +38,8 @@ pub write-series-spec : {M : Type 1} → statement M
 write-series-spec =
     tie.close
     (tie.spec
-    add-length
-    mul-length
+    add-size
+    mul-size
     returns
     series-type-requires
     put-series-requires

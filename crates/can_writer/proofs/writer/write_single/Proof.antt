@@ -3,9 +3,9 @@ use borrow.Author.Needs.{needs}
 use mathlib.Core.Path.{_≡_}
 use denote.Ref.{now}
 use lib.ListN.{length}
-use Rattle.message.specs.Kinds.{typeNumber}
-use Rattle.can.specs.Can.{identifier, frame}
-use Rattle.can.proofs.Lengths.{identifier-length, frame-length}
+use Rattle.message_rules.specs.Kinds.{typeNumber}
+use Rattle.can_rules.specs.Can.{identifier, frame}
+use Rattle.can_rules.proofs.Lengths.{identifier-length, frame-length}
 use Rattle.can_writer.proofs.Writing.{refused-short, given-stored}
 use Rattle.can_writer.proofs.writer.write_single.Statement.{statement}
 use Rattle.can_writer.proofs.writer.write_single.Tie as tie

@@ -2,7 +2,7 @@
 use mathlib.Core.Path.{sym}
 use native.Mathlib.Omega.{arith}
 use lib.Seq.{length-take-le}
-use Rattle.little_endian.specs.LittleEndian.{toBytes}
+use Rattle.little_endian_rules.specs.LittleEndian.{toBytes}
 use Rattle.device_rules.specs.Receive.{infoBytes}
 use Rattle.device_rules.proofs.Buffers.{frame-within, frame-most, frame-of-buffer}
 use borrow.Author.Needs.{needs}

@@ -3,7 +3,7 @@ use mathlib.Core.Bool.{true, false}
 use mathlib.Core.Path.{sym, _∙_}
 use borrow.Author.Tests.{not-true, not-false}
 use lib.Seq.{length-take-le}
-use Rattle.link.proofs.Reading.{unreadable, readable}
+use Rattle.link_rules.proofs.Reading.{unreadable, readable}
 use Rattle.device.proofs.Replies.{equal-gives, silence-gives, refused-reply, message-reply}
 use borrow.Author.Needs.{needs}
 use Rattle.device.proofs.receiver.receive.Statement.{statement}

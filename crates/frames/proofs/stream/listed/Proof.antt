@@ -5,9 +5,9 @@ use borrow.Author.Needs.{needs}
 use denote.Ref.{now}
 use lib.ListN.{take, length-append}
 use lib.Seq.{take-append-seam}
-use Rattle.message.proofs.Answers.{lay-refused, lay-length}
-use Rattle.listing.proofs.Bound.{listing-longest}
-use Rattle.listing.specs.Listing.{listing}
+use Rattle.message_rules.proofs.Answers.{put-refused, put-length}
+use Rattle.listing_rules.proofs.Bound.{listing-longest}
+use Rattle.listing_rules.specs.Listing.{listing}
 use Rattle.frames.proofs.stream.listed.Statement.{statement}
 use Rattle.frames.proofs.stream.listed.Tie as tie
 
@@ -27,7 +27,7 @@ returns : tie.Need-returns
 returns c =
     let text = listing (now (c .before .before .before .before .before .before .before .before .before .args .bytes)) in
     let l = c .before .before .before .before .before .list in
-    let a = lay-length text (now (c .before .before .before .before .before .before .before .before .before .args .out)) _ (l .result) (l .ensures .0) (l .ensures .1) _ (c .before .n .given .1) in
+    let a = put-length text (now (c .before .before .before .before .before .before .before .before .before .args .out)) _ (l .result) (l .ensures .0) (l .ensures .1) _ (c .before .n .given .1) in
     let whole : take (c .before .n .given .0 .0) (l .last .1 .0) ≡ text = rw (a .2, a .1, take-append-seam) in
     ((rw (a .2, length-append) (omega (arith, a .1)), rw whole (a .1)), whole)
 
@@ -38,7 +38,7 @@ returns-2 : tie.Need-returns-2
 returns-2 c =
     let l = c .before .before .before .before .list in
     let text = listing (now (c .before .before .before .before .before .before .before .before .args .bytes)) in
-    let a = lay-refused text (now (c .before .before .before .before .before .before .before .before .args .out)) _ (l .result) (l .ensures .0) (l .ensures .1) _ (c .enum-told .given .1) in
+    let a = put-refused text (now (c .before .before .before .before .before .before .before .before .args .out)) _ (l .result) (l .ensures .0) (l .ensures .1) _ (c .enum-told .given .1) in
     absurd (omega (arith, a .0, listing-longest (now (c .before .before .before .before .before .before .before .before .args .bytes)), c .before .before .before .before .before .before .before .before .pre))
 
 pub listed-spec : {M : Type 1} → statement M

@@ -2,8 +2,8 @@
 use mathlib.Core.Path.{sym}
 use borrow.Author.Needs.{needs}
 use lib.Seq.{length-take-le}
-use Rattle.link.proofs.Reading.{unreadable, readable}
-use Rattle.upload.specs.Round.{meaning}
+use Rattle.link_rules.proofs.Reading.{unreadable, readable}
+use Rattle.sender_rules.specs.Hearing.{meaning}
 use Rattle.sender.proofs.hearer.meaning.Statement.{statement}
 use Rattle.sender.proofs.hearer.meaning.Tie as tie
 
@@ -21,10 +21,14 @@ enum-told c = search needs
 
 returns : tie.Need-returns
 unfolding meaning
-returns c = let e = c .before .before .before .read .ensures in rw (unreadable _ _ _ _ (e .0) (e .1) _ (c .enum-told .given .1))
+returns c =
+    let e = c .before .before .before .read .ensures in
+    rw (unreadable _ _ _ _ (e .0) (e .1) _ (c .enum-told .given .1))
 
 array-share-prefix-payload : tie.Need-array-share-prefix-payload
-array-share-prefix-payload c = let e = c .before .before .before .before .read .ensures in readable _ _ _ _ (e .0) (e .1) _ _ (c .before .message .given .1) .1
+array-share-prefix-payload c =
+    let e = c .before .before .before .before .read .ensures in
+    readable _ _ _ _ (e .0) (e .1) _ _ (c .before .message .given .1) .1
 
 slice-aggregate-message-meaning : tie.Need-slice-aggregate-message-meaning
 slice-aggregate-message-meaning c = sym (length-take-le _ _ (array-share-prefix-payload (c .before)))
@@ -33,7 +37,10 @@ message-meaning-requires : tie.Need-message-meaning-requires
 message-meaning-requires c κs = search needs
 
 returns-2 : tie.Need-returns-2
-returns-2 c = let e = c .before .before .before .before .before .before .read .ensures in rw (readable _ _ _ _ (e .0) (e .1) _ _ (c .before .before .before .message .given .1) .0) (c .message-meaning .ensures)
+returns-2 c =
+    let known = c .before .before .before in
+    let e = known .before .before .before .read .ensures in
+    rw (readable _ _ _ _ (e .0) (e .1) _ _ (known .message .given .1) .0) (c .message-meaning .ensures)
 
 pub meaning-spec : {M : Type 1} → statement M
 meaning-spec =

@@ -6,12 +6,12 @@ use borrow.Author.Needs.{needs}
 use borrow.Author.Tests.{not-true, not-false}
 use denote.Ref.{now}
 use lib.Seq.{length-take-le}
-use Rattle.little_endian.specs.LittleEndian.{toBytes}
-use Rattle.message.specs.Answer.{within, counted, laid}
-use Rattle.message.proofs.Answers.{long-enough}
+use Rattle.little_endian_rules.specs.LittleEndian.{toBytes}
+use Rattle.message_rules.specs.Answer.{within, counted, outputAfter}
+use Rattle.message_rules.proofs.Answers.{long-enough}
 use Rattle.round_rules.specs.Requester.{nothing}
-use Rattle.upload.specs.Sender.{requestTold}
-use Rattle.sender.proofs.Requests.{ended-asks, changed-asks, running-asks}
+use Rattle.sender_rules.specs.Sender.{requestResult}
+use Rattle.sender_rules.proofs.Requests.{ended-asks, changed-asks, running-asks}
 use Rattle.sender.proofs.requester.request.Statement.{statement}
 use Rattle.sender.proofs.requester.request.Tie as tie
 
@@ -19,15 +19,23 @@ is-running-requires : tie.Need-is-running-requires
 is-running-requires c κs = search needs
 
 returns : tie.Need-returns
-unfolding requestTold within counted laid
-returns c = let s = c .before .before .before .before .args in rw (ended-asks (s .sender) (now (s .file)) (sym (c .before .is-running .ensures) ∙ not-true _ (c .if1 .taken)), long-enough (now (s .out)) nothing [] (omega arith)) (refl, refl)
+unfolding requestResult within counted outputAfter
+returns c =
+    let s = c .before .before .before .before .args in
+    let over = sym (c .before .is-running .ensures) ∙ not-true _ (c .if1 .taken) in
+    rw (ended-asks (s .sender) (now (s .file)) over, long-enough (now (s .out)) nothing [] (omega arith)) (refl, refl)
 
 same-file-requires : tie.Need-same-file-requires
 same-file-requires c κs = search needs
 
 returns-2 : tie.Need-returns-2
-unfolding requestTold within counted laid
-returns-2 c = let s = c .before .before .before .before .before .before .args in rw (changed-asks (s .sender) (now (s .file)) (sym (c .before .before .before .is-running .ensures) ∙ not-false _ (c .before .before .if1 .left)) (sym (c .before .same-file .ensures) ∙ not-true _ (c .if2 .taken))) (refl, refl)
+unfolding requestResult within counted outputAfter
+returns-2 c =
+    let runs = c .before .before in
+    let s = runs .before .before .before .before .args in
+    let on = sym (runs .before .is-running .ensures) ∙ not-false _ (runs .if1 .left) in
+    let changed = sym (c .before .same-file .ensures) ∙ not-true _ (c .if2 .taken) in
+    rw (changed-asks (s .sender) (now (s .file)) on changed) (refl, refl)
 
 u32-to-bytes-requires : tie.Need-u32-to-bytes-requires
 u32-to-bytes-requires c κs = search needs
@@ -52,7 +60,16 @@ same-length : tie.Need-same-length
 same-length c = search needs
 
 returns-3 : tie.Need-returns-3
-returns-3 c = let s = c .before .before .before .before .before .before .before .before .before .before .before .before .before .before .args in rw (running-asks (s .sender) (now (s .file)) (sym (c .before .before .before .before .before .before .before .before .before .before .before .is-running .ensures) ∙ not-false _ (c .before .before .before .before .before .before .before .before .before .before .if1 .left)) (sym (c .before .before .before .before .before .before .before .before .before .same-file .ensures) ∙ not-false _ (c .before .before .before .before .before .before .before .before .if2 .left)), ← c .before .before .before .before .request-message .ensures, ← c .before .before .before .before .before .request-payload .ensures) (c .before .before .send .ensures)
+returns-3 c =
+    let written = c .before .before in
+    let message = written .before .before in
+    let payload = message .before in
+    let lent = payload .before .before .before in
+    let runs = lent .before .before in
+    let s = runs .before .before .before .before .args in
+    let on = sym (runs .before .is-running .ensures) ∙ not-false _ (runs .if1 .left) in
+    let same = sym (lent .before .same-file .ensures) ∙ not-false _ (lent .if2 .left) in
+    rw (running-asks (s .sender) (now (s .file)) on same, ← message .request-message .ensures, ← payload .request-payload .ensures) (written .send .ensures)
 
 pub request-spec : {M : Type 1} → statement M
 request-spec =

@@ -1,6 +1,6 @@
 -- Carried by the stage.
 use borrow.Author.Needs.{needs}
-use Rattle.upload.specs.Sender.{requestPayload}
+use Rattle.sender_rules.specs.Sender.{requestPayload}
 use Rattle.sender.proofs.requester.request_payload.Statement.{statement}
 use Rattle.sender.proofs.requester.request_payload.Tie as tie
 

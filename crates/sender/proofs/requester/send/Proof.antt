@@ -1,9 +1,9 @@
 -- Carried by what the writer answers, in each of its cases.
 use mathlib.Core.Path.{refl}
 use borrow.Author.Needs.{needs}
-use Rattle.message.specs.Answer.{writeTold, about}
-use Rattle.upload.specs.Sender.{requestTold}
-use Rattle.message.proofs.Answers.{about-told, about-laid}
+use Rattle.message_rules.specs.Answer.{writeResult, about}
+use Rattle.sender_rules.specs.Sender.{requestResult}
+use Rattle.message_rules.proofs.Answers.{about-told, about-output}
 use Rattle.sender.proofs.requester.send.Statement.{statement}
 use Rattle.sender.proofs.requester.send.Tie as tie
 
@@ -20,15 +20,19 @@ same-length : tie.Need-same-length
 same-length c = search needs
 
 returns : tie.Need-returns
-unfolding writeTold requestTold about
-returns c = let e = rw (c .before .n .given .1) at (c .before .before .before .before .before .write .ensures) in rw (about-told, about-laid, ← e .0) (refl, e .1)
+unfolding writeResult requestResult about
+returns c =
+    let e = rw (c .before .n .given .1) at (c .before .before .before .before .before .write .ensures) in
+    rw (about-told, about-output, ← e .0) (refl, e .1)
 
 same-length-2 : tie.Need-same-length-2
 same-length-2 c = search needs
 
 returns-2 : tie.Need-returns-2
-unfolding writeTold requestTold about
-returns-2 c = let e = rw (c .before .refusal .given .1) at (c .before .before .before .before .before .write .ensures) in rw (about-told, about-laid, ← e .0) (refl, e .1)
+unfolding writeResult requestResult about
+returns-2 c =
+    let e = rw (c .before .refusal .given .1) at (c .before .before .before .before .before .write .ensures) in
+    rw (about-told, about-output, ← e .0) (refl, e .1)
 
 pub send-spec : {M : Type 1} → statement M
 send-spec =

@@ -1,7 +1,7 @@
 -- Carried by the link, and on RS485 by the two addresses.
 use borrow.Author.Needs.{needs}
 use borrow.Author.Tests.{lt-ltb, le-ltb}
-use Rattle.upload.specs.Sender.{addressesLegal}
+use Rattle.sender_rules.specs.Sender.{addressesLegal}
 use Rattle.sender_state.proofs.starter.addresses_legal.Statement.{statement}
 use Rattle.sender_state.proofs.starter.addresses_legal.Tie as tie
 

@@ -1,7 +1,7 @@
 -- Carried by the range that each arm matched.
 use native.Mathlib.Omega.{arith}
 use borrow.Author.Tests.{le-leb, lt-leb}
-use Rattle.serial.specs.Frames.{byId}
+use Rattle.serial_rules.specs.Frames.{byId}
 use Rattle.serial_reader.proofs.kind.by_id.Statement.{statement}
 use Rattle.serial_reader.proofs.kind.by_id.Tie as tie
 

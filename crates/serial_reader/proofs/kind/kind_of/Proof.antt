@@ -1,6 +1,6 @@
 -- Carried by the case of the row.
 use borrow.Author.Needs.{needs}
-use Rattle.serial.specs.Frames.{kindOf}
+use Rattle.serial_rules.specs.Frames.{kindOf}
 use Rattle.serial_reader.proofs.kind.kind_of.Statement.{statement}
 use Rattle.serial_reader.proofs.kind.kind_of.Tie as tie
 

@@ -1,13 +1,14 @@
 -- Carried by how the scan stopped, and where.
 use borrow.Author.Needs.{needs}
-use mathlib.Core.Path.{_≡_, refl, sym, _∙_}
+use mathlib.Core.Path.{_≡_, refl, ap, sym, _∙_}
 use native.Mathlib.Omega.{arith}
 use denote.Ref.{now}
 use borrow.Author.Tests.{eq-eqb, ne-eqb}
 use lib.ListN.{length, drop, length-drop}
-use Rattle.message.specs.Answer.{readTold, require, after, within, counted, laid}
-use Rattle.stuffing.specs.Stuffing.{frameScan}
-use Rattle.serial.specs.Frames.{closed}
+use Rattle.message_rules.specs.Answer.{readResult, require, after, within, counted, outputAfter}
+use Rattle.serial_rules.specs.Stuffing.{frameScan}
+use Rattle.serial_rules.specs.Frames.{closed, rowRead}
+use Rattle.serial_scan.specs.declared.Scanned.{Scanned}
 use Rattle.serial_reader.proofs.reader.read_started.Statement.{statement}
 use Rattle.serial_reader.proofs.reader.read_started.Tie as tie
 
@@ -24,34 +25,38 @@ enum-told-3 : tie.Need-enum-told-3
 enum-told-3 c = search needs
 
 returns : tie.Need-returns
-unfolding closed require after within counted laid readTold
+unfolding rowRead closed require after within counted outputAfter readResult
 returns c =
-    let b = now (c .before .before .before .before .before .before .before .args .bytes) in
-    let s = c .before .before .before .before .scan .ensures in
-    let other : (frameScan b .passed ≡ length (drop 2 b) → ⊥) = λ e. c .if1 .taken (omega (arith, s .1, e, length-drop 2 b, c .before .before .before .before .before .before .before .pre)) in
-    rw (← s .0, c .before .before .enum-told3 .given .1, ne-eqb _ _ other) (refl, refl)
+    let k = c .before .before .before .before in
+    let b = now (k .before .before .before .args .bytes) in
+    let s = k .scan .ensures in
+    let other : (frameScan b .consumed ≡ length (drop 2 b) → ⊥) = λ e. c .if1 .taken (omega (arith, ap (λ (x : Scanned). x .end) s, e, length-drop 2 b, k .before .before .before .pre)) in
+    rw (sym (ap (λ (x : Scanned). x .stop) s) ∙ c .before .before .enum-told3 .given .1, ne-eqb _ _ other) (refl, refl)
 
 read-frame-requires : tie.Need-read-frame-requires
-read-frame-requires c κs = (sym (c .before .before .before .before .before .scan .ensures .0) ∙ c .before .before .before .enum-told3 .given .1, c .before .before .before .before .before .scan .ensures .2)
+read-frame-requires c κs =
+    let s = c .before .before .before .before .before .scan .ensures in
+    record { ended = sym (ap (λ (x : Scanned). x .stop) s) ∙ c .before .before .before .enum-told3 .given .1; size = ap (λ (x : Scanned). x .count) s }
 
 returns-2 : tie.Need-returns-2
-unfolding closed require after within counted laid readTold
-returns-2 c = rw (← c .before .before .scan .ensures .0, c .enum-told .given .1) (refl, refl)
+unfolding rowRead closed require after within counted outputAfter readResult
+returns-2 c = rw (sym (ap (λ (x : Scanned). x .stop) (c .before .before .scan .ensures)) ∙ c .enum-told .given .1) (refl, refl)
 
 returns-3 : tie.Need-returns-3
-unfolding closed require after within counted laid readTold
-returns-3 c = rw (← c .before .before .scan .ensures .0, c .enum-told2 .given .1) (refl, refl)
+unfolding rowRead closed require after within counted outputAfter readResult
+returns-3 c = rw (sym (ap (λ (x : Scanned). x .stop) (c .before .before .scan .ensures)) ∙ c .enum-told2 .given .1) (refl, refl)
 
 same-length : tie.Need-same-length
 same-length c = c .before .before .read-frame .kept .1 .1 .1 .1 .0
 
 returns-4 : tie.Need-returns-4
-unfolding closed require after
+unfolding rowRead closed require after
 returns-4 c =
-    let b = now (c .before .before .before .before .before .before .before .before .before .before .before .args .bytes) in
-    let s = c .before .before .before .before .before .before .before .before .scan .ensures in
-    let whole : frameScan b .passed ≡ length (drop 2 b) = omega (arith, s .1, c .before .before .before .before .if1 .left, length-drop 2 b) in
-    rw (← s .0, c .before .before .before .before .before .before .enum-told3 .given .1, eq-eqb _ _ whole) (c .before .before .read-frame .ensures)
+    let k = c .before .before .before .before .before .before .before .before in
+    let b = now (k .before .before .before .args .bytes) in
+    let s = k .scan .ensures in
+    let whole : frameScan b .consumed ≡ length (drop 2 b) = omega (arith, ap (λ (x : Scanned). x .end) s, c .before .before .before .before .if1 .left, length-drop 2 b) in
+    rw (sym (ap (λ (x : Scanned). x .stop) s) ∙ c .before .before .before .before .before .before .enum-told3 .given .1, eq-eqb _ _ whole) (c .before .before .read-frame .ensures)
 
 pub read-started-spec : {M : Type 1} → statement M
 read-started-spec =

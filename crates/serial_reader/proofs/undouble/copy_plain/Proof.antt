@@ -1,18 +1,18 @@
--- Carried by the steps of a scan: before a turn the rest of the body, stored behind the bytes copied, makes the output whole.
+-- Carried by the steps of a scan: before a turn the rest of the body, stored after the bytes copied, makes the output whole.
 use Prim.Native.Nat.{_+_, _-_, _<_}
 use mathlib.Core.Path.{_≡_, refl}
 use native.Mathlib.Nat.{add-zero}
 use native.Mathlib.Omega.{arith}
 use borrow.Author.Needs.{needs}
-use lib.ListN.{length, drop, length-set}
-use lib.Seq.{sets}
-use Rattle.stuffing.specs.Stuffing.{scan}
-use Rattle.serial_reader.proofs.Undoubling.{Storing, store-byte, ended-inside, ended-next, plain-byte}
+use lib.ListN.{length, length-set}
+use Rattle.serial_reader.specs.Undouble.{Storing, stored}
+use Rattle.serial_reader.proofs.Undoubling.{store-byte, ended-inside, ended-next, plain-byte}
 use Rattle.serial_reader.proofs.undouble.copy_plain.Statement.{statement}
 use Rattle.serial_reader.proofs.undouble.copy_plain.Tie as tie
 
 abbrev Inv-loop : tie.InvT-loop
-Inv-loop bytes from out₀ to esc n₀ out n = (from + n < length bytes) × (length out ≡ length out₀) × Storing bytes (sets out₀ to (scan (drop from bytes) .body)) out (from + n) (to + n)
+Inv-loop bytes from out₀ to esc n₀ out n =
+    (from + n < length bytes) × (length out ≡ length out₀) × Storing bytes (stored bytes from out₀ to) out (from + n) (to + n)
 
 abbrev μ-loop : tie.MeasureT-loop
 μ-loop bytes from out₀ to esc n₀ out n = length bytes - (from + n)
@@ -21,7 +21,10 @@ escape-requires : tie.Need-escape-requires Inv-loop μ-loop
 escape-requires c κs = search needs
 
 loop-holds : tie.Need-loop-holds Inv-loop μ-loop
-loop-holds c = rw (add-zero (c .before .before .before .args .from), add-zero (c .before .before .before .args .to)) (ended-inside _ _ (c .before .before .before .pre .0), refl, (c .before .before .before .pre .0, c .before .before .before .pre .1, refl))
+loop-holds c =
+    let a = c .before .before .before .args in
+    let f = c .before .before .before .pre in
+    rw (add-zero (a .from), add-zero (a .to)) (ended-inside _ _ (f .ended), refl, record { fits = f; same = refl })
 
 add-byte : tie.Need-add-byte Inv-loop μ-loop
 add-byte c = search needs
@@ -35,7 +38,8 @@ same-length c = search needs
 returns : tie.Need-returns Inv-loop μ-loop
 returns c =
     let s = c .before .before .loop .inv .2 in
-    (ended-next _ _ (s .0) (rw (c .before .before .before .escape .ensures) at (c .if1 .taken)), (rw (c .before .before .before .escape .ensures) at (c .if1 .taken)), s .0, s .1, s .2)
+    let e = rw (c .before .before .before .escape .ensures) at (c .if1 .taken) in
+    record { escape = e; next = ended-next _ _ (s .fits .ended) e; left = s }
 
 slice-write-out : tie.Need-slice-write-out Inv-loop μ-loop
 slice-write-out c =
@@ -59,7 +63,7 @@ loop-again c =
     let h = store-byte _ _ (l .out) (a .from + l .n) 1 (a .to + l .n) (l .inv .2) (plain-byte _ _ (l .inv .0) (rw (c .before .before .before .escape .ensures) at (c .if1 .left))) in
     let at : a .from + (l .n + 1) ≡ a .from + l .n + 1 = omega arith in
     let to : a .to + (l .n + 1) ≡ a .to + l .n + 1 = omega arith in
-    rw (at, to) (ended-inside _ _ (h .1 .0), rw length-set (l .inv .1), h .1)
+    rw (at, to) (ended-inside _ _ (h .1 .fits .ended), rw length-set (l .inv .1), h .1)
 
 pub copy-plain-spec : {M : Type 1} → statement M
 copy-plain-spec =

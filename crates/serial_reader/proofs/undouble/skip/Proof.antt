@@ -1,14 +1,15 @@
--- Carried by the steps of a scan: before a turn `at` stands i encoded bytes behind `from`.
+-- Carried by the steps of a scan: before a turn `at` stands i encoded bytes after `from`.
 use Prim.Native.Nat.{_≤_, _-_}
 use mathlib.Core.Path.{_≡_}
 use borrow.Author.Needs.{needs}
 use native.Mathlib.Omega.{arith}
-use Rattle.serial_reader.proofs.Undoubling.{Behind, behind-inside, behind-plain, behind-doubled}
+use Rattle.serial_reader.specs.Undouble.{Skipped}
+use Rattle.serial_reader.proofs.Undoubling.{skip-inside, skip-plain, skip-doubled}
 use Rattle.serial_reader.proofs.undouble.skip.Statement.{statement}
 use Rattle.serial_reader.proofs.undouble.skip.Tie as tie
 
 abbrev Inv-loop : tie.InvT-loop
-Inv-loop bytes from n esc at₀ i₀ at i = (i ≤ n) × Behind bytes from i at
+Inv-loop bytes from n esc at₀ i₀ at i = (i ≤ n) × Skipped bytes from i at
 
 abbrev μ-loop : tie.MeasureT-loop
 μ-loop bytes from n esc at₀ i₀ at i = n - i
@@ -22,12 +23,12 @@ loop-holds c = search needs
 shared-slice-read-if1 : tie.Need-shared-slice-read-if1 Inv-loop μ-loop
 shared-slice-read-if1 c =
     let l = c .before .before .loop in
-    behind-inside _ _ (l .i) (l .at) (l .inv .1) (omega arith)
+    skip-inside _ _ (l .i) (l .at) (l .inv .1) (omega arith)
 
 add-at : tie.Need-add-at Inv-loop μ-loop
 add-at c =
     let l = c .before .before .before .loop in
-    omega (arith, behind-doubled _ _ (l .i) (l .at) (l .inv .1) (omega arith) (rw (c .before .before .before .before .escape .ensures) at (c .if1 .taken)) .0)
+    omega (arith, skip-doubled _ _ (l .i) (l .at) (l .inv .1) (omega arith) (rw (c .before .before .before .before .escape .ensures) at (c .if1 .taken)) .0)
 
 add-i : tie.Need-add-i Inv-loop μ-loop
 add-i c = search needs
@@ -38,12 +39,12 @@ loop-less c = search needs
 loop-again : tie.Need-loop-again Inv-loop μ-loop
 loop-again c =
     let l = c .before .before .before .loop in
-    (omega arith, behind-doubled _ _ (l .i) (l .at) (l .inv .1) (omega arith) (rw (c .before .before .before .before .escape .ensures) at (c .if1 .taken)) .1)
+    (omega arith, skip-doubled _ _ (l .i) (l .at) (l .inv .1) (omega arith) (rw (c .before .before .before .before .escape .ensures) at (c .if1 .taken)) .1)
 
 add-at-2 : tie.Need-add-at-2 Inv-loop μ-loop
 add-at-2 c =
     let l = c .before .before .before .loop in
-    omega (arith, behind-inside _ _ (l .i) (l .at) (l .inv .1) (omega arith))
+    omega (arith, skip-inside _ _ (l .i) (l .at) (l .inv .1) (omega arith))
 
 add-i-2 : tie.Need-add-i-2 Inv-loop μ-loop
 add-i-2 c = search needs
@@ -54,7 +55,7 @@ loop-less-2 c = search needs
 loop-again-2 : tie.Need-loop-again-2 Inv-loop μ-loop
 loop-again-2 c =
     let l = c .before .before .before .loop in
-    (omega arith, behind-plain _ _ (l .i) (l .at) (l .inv .1) (omega arith) (rw (c .before .before .before .before .escape .ensures) at (c .if1 .left)))
+    (omega arith, skip-plain _ _ (l .i) (l .at) (l .inv .1) (omega arith) (rw (c .before .before .before .before .escape .ensures) at (c .if1 .left)))
 
 returns : tie.Need-returns Inv-loop μ-loop
 returns c =

@@ -5,15 +5,15 @@ use native.Mathlib.Omega.{arith}
 use borrow.Author.Needs.{needs}
 use denote.Ref.{now}
 use lib.ListN.{length, drop, length-set}
-use lib.Seq.{sets}
-use Rattle.stuffing.specs.Stuffing.{scan}
-use Rattle.serial_reader.proofs.Undoubling.{Storing, store-doubled, store-tail}
-use Rattle.message.proofs.Stores.{sets-start}
+use Rattle.message_rules.proofs.Stores.{sets-start}
+use Rattle.serial_rules.specs.Stuffing.{scan}
+use Rattle.serial_reader.specs.Undouble.{Storing, AtEscape, stored}
+use Rattle.serial_reader.proofs.Undoubling.{store-doubled, store-tail}
 use Rattle.serial_reader.proofs.undouble.undouble.Statement.{statement}
 use Rattle.serial_reader.proofs.undouble.undouble.Tie as tie
 
 abbrev Inv-loop : tie.InvT-loop
-Inv-loop link bytes from out₀ esc last at₀ to₀ out at to = (length out ≡ length out₀) × Storing bytes (sets out₀ 0 (scan (drop from bytes) .body)) out at to
+Inv-loop link bytes from out₀ esc last at₀ to₀ out at to = (length out ≡ length out₀) × Storing bytes (stored bytes from out₀ 0) out at to
 
 abbrev μ-loop : tie.MeasureT-loop
 μ-loop link bytes from out₀ esc last at₀ to₀ out at to = length bytes - at
@@ -24,15 +24,20 @@ escape-requires c κs = search needs
 tail-requires : tie.Need-tail-requires Inv-loop μ-loop
 tail-requires c κs = search needs
 
--- What is left to store behind the plain bytes that a turn copied.
-left : (c : tie.After-copy-plain Inv-loop μ-loop) → let a = c .before .before .before .before .before .before .before .args in let l = c .before .before .loop in let n = c .copy-plain .result in Storing (now (a .bytes)) (sets (now (a .out)) 0 (scan (drop (a .from) (now (a .bytes))) .body)) (c .copy-plain .last .1 .1 .1 .0) (l .at + n) (l .to + n)
-left c = let e = c .copy-plain .ensures in (e .2, e .3, cc)
-
 loop-holds : tie.Need-loop-holds Inv-loop μ-loop
-loop-holds c = (refl, (c .before .before .before .before .pre .0, omega arith, refl))
+loop-holds c = (refl, record { fits = c .before .before .before .before .pre; same = refl })
 
 copy-plain-requires : tie.Need-copy-plain-requires Inv-loop μ-loop
-copy-plain-requires c κs = (c .before .loop .inv .1 .0, c .before .loop .inv .1 .1)
+copy-plain-requires c κs = c .before .loop .inv .1 .fits
+
+-- The ESC that the plain bytes of a turn end at.
+at-escape : (c : tie.After-copy-plain Inv-loop μ-loop) → let a = c .before .before .before .before .before .before .before .args in
+    let l = c .before .before .loop in
+    let n = c .copy-plain .result in
+    AtEscape (now (a .bytes)) (stored (now (a .bytes)) (a .from) (now (a .out)) 0) (c .copy-plain .last .1 .1 .1 .0) (l .at + n) (l .to + n)
+at-escape c =
+    let e = c .copy-plain .ensures in
+    record { escape = e .escape; next = e .next; left = record { fits = e .left .fits; same = e .left .same ∙ c .before .before .loop .inv .1 .same } }
 
 add-at : tie.Need-add-at Inv-loop μ-loop
 add-at c = search needs
@@ -51,19 +56,16 @@ same-length c = search needs
 
 returns : tie.Need-returns Inv-loop μ-loop
 returns c =
-    let a = c .before .before .before .before .before .before .before .before .before .before .before .args in
     let k = c .before .before .before .before in
-    let l = k .before .before .loop in
-    let n = k .copy-plain .result in
-    store-tail (now (k .before .before .before .before .before .before .before .args .bytes)) _ (k .copy-plain .last .1 .1 .1 .0) (l .at + n) (l .to + n) (left k) (k .copy-plain .ensures .1) (c .if1 .taken ∙ c .before .before .before .before .before .before .before .tail .ensures)
+    let start = k .before .before .before in
+    let a = start .before .before .before .before .args in
+    store-tail _ _ _ _ _ (at-escape k) (c .if1 .taken ∙ start .tail .ensures)
     ∙ sets-start (scan (drop (a .from) (now (a .bytes))) .body) (now (a .out)) (omega arith)
 
 slice-write-out : tie.Need-slice-write-out Inv-loop μ-loop
 slice-write-out c =
     let k = c .before .before .before .before in
-    let l = k .before .before .loop in
-    let n = k .copy-plain .result in
-    store-doubled (now (k .before .before .before .before .before .before .before .args .bytes)) _ (k .copy-plain .last .1 .1 .1 .0) (l .at + n) (l .to + n) (left k) (k .copy-plain .ensures .1) (λ q. c .if1 .left (q ∙ sym (c .before .before .before .before .before .before .before .tail .ensures))) .0
+    store-doubled _ _ _ _ _ (at-escape k) (λ q. c .if1 .left (q ∙ sym (k .before .before .before .tail .ensures))) .0
 
 add-at-2 : tie.Need-add-at-2 Inv-loop μ-loop
 add-at-2 c = search needs
@@ -77,10 +79,9 @@ loop-less c = search needs
 loop-again : tie.Need-loop-again Inv-loop μ-loop
 loop-again c =
     let k = c .before .before .before .before in
-    let l = k .before .before .loop in
-    let n = k .copy-plain .result in
-    let h = store-doubled (now (k .before .before .before .before .before .before .before .args .bytes)) _ (k .copy-plain .last .1 .1 .1 .0) (l .at + n) (l .to + n) (left k) (k .copy-plain .ensures .1) (λ q. c .if1 .left (q ∙ sym (c .before .before .before .before .before .before .before .tail .ensures))) in
-    (rw length-set (search needs), rw (c .before .before .before .before .before .before .before .before .escape .ensures) (h .1))
+    let start = k .before .before .before in
+    let h = store-doubled _ _ _ _ _ (at-escape k) (λ q. c .if1 .left (q ∙ sym (start .tail .ensures))) in
+    (rw length-set (search needs), rw (start .before .escape .ensures) (h .1))
 
 pub undouble-spec : {M : Type 1} → statement M
 undouble-spec =

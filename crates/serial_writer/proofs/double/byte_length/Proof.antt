@@ -3,7 +3,7 @@ use mathlib.Core.Path.{refl}
 use native.Mathlib.Omega.{arith}
 use borrow.Author.Needs.{needs}
 use borrow.Author.Tests.{eq-eqb, ne-eqb}
-use Rattle.stuffing.specs.Stuffing.{doubled}
+use Rattle.serial_rules.specs.Stuffing.{doubled}
 use Rattle.serial_writer.proofs.double.byte_length.Statement.{statement}
 use Rattle.serial_writer.proofs.double.byte_length.Tie as tie
 

@@ -6,9 +6,9 @@ use borrow.Author.Needs.{needs}
 use denote.Ref.{now}
 use lib.ListN.{length, drop}
 use lib.Seq.{sets}
-use Rattle.stuffing.specs.Stuffing.{doubled}
-use Rattle.message.proofs.Stores.{sets-append}
-use Rattle.stuffing.proofs.Doubling.{doubled-step, doubled-end, length-step}
+use Rattle.message_rules.proofs.Stores.{sets-append}
+use Rattle.serial_rules.specs.Stuffing.{doubled}
+use Rattle.serial_rules.proofs.Doubling.{doubled-step, doubled-end, length-step}
 use Rattle.serial_writer.proofs.double.double.Statement.{statement}
 use Rattle.serial_writer.proofs.double.double.Tie as tie
 

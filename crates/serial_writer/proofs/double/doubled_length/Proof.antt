@@ -5,8 +5,8 @@ use native.Mathlib.Omega.{arith}
 use borrow.Author.Needs.{needs}
 use denote.Ref.{now}
 use lib.ListN.{length, drop}
-use Rattle.stuffing.specs.Stuffing.{doubled}
-use Rattle.stuffing.proofs.Doubling.{doubled-most, doubled-end, length-step}
+use Rattle.serial_rules.specs.Stuffing.{doubled}
+use Rattle.serial_rules.proofs.Doubling.{doubled-most, doubled-end, length-step}
 use Rattle.serial_writer.proofs.double.doubled_length.Statement.{statement}
 use Rattle.serial_writer.proofs.double.doubled_length.Tie as tie
 

@@ -5,8 +5,8 @@ use mathlib.Core.Path.{refl}
 use borrow.Author.Needs.{needs}
 use borrow.Author.Tests.{eq-eqb, ne-eqb}
 use lib.ListN.{length-set}
-use Rattle.stuffing.specs.Stuffing.{doubled}
-use Rattle.stuffing.proofs.Doubling.{doubled-some}
+use Rattle.serial_rules.specs.Stuffing.{doubled}
+use Rattle.serial_rules.proofs.Doubling.{doubled-some}
 use Rattle.serial_writer.proofs.double.put.Statement.{statement}
 use Rattle.serial_writer.proofs.double.put.Tie as tie
 

@@ -3,8 +3,8 @@ use borrow.Author.Needs.{needs}
 use mathlib.Core.Path.{refl}
 use mathlib.Core.List.{[], _∷_}
 use native.Mathlib.Omega.{arith}
-use Rattle.stuffing.specs.Stuffing.{doubled}
-use Rattle.stuffing.proofs.Doubling.{length-first}
+use Rattle.serial_rules.specs.Stuffing.{doubled}
+use Rattle.serial_rules.proofs.Doubling.{length-first}
 use Rattle.serial_writer.proofs.Writing.{error-none, error-one, error-all}
 use Rattle.serial_writer.proofs.writer.error_bytes_length.Statement.{statement}
 use Rattle.serial_writer.proofs.writer.error_bytes_length.Tie as tie
@@ -23,7 +23,10 @@ byte-length-requires : tie.Need-byte-length-requires
 byte-length-requires c κs = search needs
 
 returns-2 : tie.Need-returns-2
-returns-2 c = rw (error-one (c .before .before .before .before .before .args .message) _ (c .before .before .before .before .error-length .ensures) _ (c .before .before .error-number .ensures) (c .if2 .taken)) (c .before .byte-length .ensures .0, omega arith)
+returns-2 c =
+    let k = c .before .before .before .before in
+    rw (error-one (k .before .args .message) _ (k .error-length .ensures) _ (c .before .before .error-number .ensures) (c .if2 .taken))
+    (c .before .byte-length .ensures .0, omega arith)
 
 byte-length-requires-2 : tie.Need-byte-length-requires-2
 byte-length-requires-2 c κs = search needs
@@ -33,9 +36,10 @@ add-result c = omega arith
 
 returns-3 : tie.Need-returns-3
 returns-3 c =
-    let m = c .before .before .before .before .before .before .args .message in
+    let k = c .before .before .before .before .before in
+    let m = k .before .args .message in
     let e = c .before .before .before .error-number in
-    rw (error-all m _ (c .before .before .before .before .before .error-length .ensures) _ (e .ensures) (c .before .before .before .before .if1 .left) (c .before .if2 .left))
+    rw (error-all m _ (k .error-length .ensures) _ (e .ensures) (c .before .before .before .before .if1 .left) (c .before .if2 .left))
     (rw (length-first (e .result) (m .index ∷ [])) (omega arith), omega arith)
 
 pub error-bytes-length-spec : {M : Type 1} → statement M

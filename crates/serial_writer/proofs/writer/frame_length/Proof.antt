@@ -2,8 +2,8 @@
 use borrow.Author.Needs.{needs}
 use native.Mathlib.Omega.{arith}
 use denote.Ref.{now}
-use Rattle.stuffing.proofs.Doubling.{doubled-most}
-use Rattle.serial.proofs.Lengths.{frame-size}
+use Rattle.serial_rules.proofs.Doubling.{doubled-most}
+use Rattle.serial_rules.proofs.Lengths.{frame-size}
 use Rattle.serial_writer.proofs.writer.frame_length.Statement.{statement}
 use Rattle.serial_writer.proofs.writer.frame_length.Tie as tie
 

@@ -3,10 +3,10 @@ use borrow.Author.Needs.{needs}
 use mathlib.Core.Path.{_≡_, refl}
 use denote.Ref.{now}
 use lib.ListN.{length}
-use Rattle.message.specs.Answer.{passed, verdictTold, writeTold, after, within, counted, laid}
-use Rattle.message.specs.Checks.{writeChecks}
-use Rattle.serial.specs.Frames.{carries, frameWrite}
-use Rattle.message.proofs.Checks.{payload-most}
+use Rattle.message_rules.specs.Answer.{passed, verdictResult, writeResult, after, within, counted, outputAfter}
+use Rattle.message_rules.specs.Checks.{writeChecks}
+use Rattle.message_rules.proofs.Checks.{payload-most}
+use Rattle.serial_rules.specs.Frames.{carries, frameWrite}
 use Rattle.serial_writer.proofs.writer.write.Statement.{statement}
 use Rattle.serial_writer.proofs.writer.write.Tie as tie
 
@@ -23,22 +23,24 @@ enum-told : tie.Need-enum-told
 enum-told c = search needs
 
 write-checked-requires : tie.Need-write-checked-requires
-unfolding verdictTold
+unfolding verdictResult
 write-checked-requires c κs =
     let a = c .before .before .before .before .before .before .before .args in
     let passes : writeChecks (c .before .before .before .before .carries .result) (a .message) (length (now (a .payload))) ≡ passed = rw (← c .before .before .before .check-written .ensures, c .before .enum-told .given .1) in
     payload-most (c .before .before .before .before .carries .result) (a .message) _ passes
 
 returns : tie.Need-returns
-unfolding frameWrite verdictTold after within counted laid writeTold
+unfolding frameWrite verdictResult after within counted outputAfter writeResult
 returns c = rw (← c .before .before .before .before .carries .ensures, ← c .before .before .before .check-written .ensures, c .before .refusal .given .1) (refl, refl)
 
 same-length : tie.Need-same-length
 same-length c = search needs
 
 returns-2 : tie.Need-returns-2
-unfolding frameWrite verdictTold after
-returns-2 c = rw (← c .before .before .before .before .before .before .before .carries .ensures, ← c .before .before .before .before .before .before .check-written .ensures, c .before .before .before .before .enum-told .given .1) (c .before .before .write-checked .ensures)
+unfolding frameWrite verdictResult after
+returns-2 c =
+    let says = c .before .before .before .before in
+    rw (← says .before .before .before .carries .ensures, ← says .before .before .check-written .ensures, says .enum-told .given .1) (c .before .before .write-checked .ensures)
 
 pub write-spec : {M : Type 1} → statement M
 write-spec =

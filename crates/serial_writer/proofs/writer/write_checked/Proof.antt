@@ -5,10 +5,10 @@ use mathlib.Core.Path.{refl, ap}
 use denote.Ref.{now}
 use lib.ListN.{length}
 use borrow.Author.Tests.{not-true, not-false}
-use Rattle.message.specs.Answer.{given, require, after, within, counted, laid, writeTold}
-use Rattle.message.proofs.Answers.{too-short, long-enough}
-use Rattle.serial.specs.Frames.{frameBytes}
-use Rattle.message.proofs.Stores.{sets-start}
+use Rattle.message_rules.specs.Answer.{given, require, after, within, counted, outputAfter, writeResult}
+use Rattle.message_rules.proofs.Answers.{too-short, long-enough}
+use Rattle.message_rules.proofs.Stores.{sets-start}
+use Rattle.serial_rules.specs.Frames.{frameBytes, checkedFrame}
 use Rattle.serial_writer.proofs.writer.write_checked.Statement.{statement}
 use Rattle.serial_writer.proofs.writer.write_checked.Tie as tie
 
@@ -16,14 +16,14 @@ source-legal-requires : tie.Need-source-legal-requires
 source-legal-requires c κs = search needs
 
 returns : tie.Need-returns
-unfolding require after within counted laid writeTold
+unfolding checkedFrame require after within counted outputAfter writeResult
 returns c = rw (← c .before .source-legal .ensures, not-true (c .before .source-legal .result) (c .if1 .taken)) (refl, refl)
 
 frame-length-requires : tie.Need-frame-length-requires
 frame-length-requires c κs = search needs
 
 returns-2 : tie.Need-returns-2
-unfolding require after counted laid writeTold
+unfolding checkedFrame require after counted outputAfter writeResult
 returns-2 c =
     let a = c .before .before .before .before .before .before .args in
     let s = c .before .before .before .source-legal in
@@ -37,7 +37,7 @@ same-length : tie.Need-same-length
 same-length c = search needs
 
 returns-3 : tie.Need-returns-3
-unfolding require after counted laid writeTold
+unfolding checkedFrame require after counted outputAfter writeResult
 returns-3 c =
     let a = c .before .before .before .before .before .before .before .before .before .before .args in
     let s = c .before .before .before .before .before .before .before .source-legal in

@@ -1,0 +1,34 @@
+-- Carried by the fault, or that there is none: then the payload is of the command's length.
+use mathlib.Core.Path.{sym, _∙_}
+use Rattle.device_rules.specs.Commands.{afterCommand}
+use Rattle.device_commands.proofs.Lengths.{payload-lengths}
+use borrow.Author.Needs.{needs}
+use Rattle.device_commands.proofs.carry_out.Statement.{statement}
+use Rattle.device_commands.proofs.carry_out.Tie as tie
+
+command-fault-requires : tie.Need-command-fault-requires
+command-fault-requires c κs = search needs
+
+enum-told : tie.Need-enum-told
+enum-told c = search needs
+
+command-done-requires : tie.Need-command-done-requires
+command-done-requires c κs = payload-lengths _ _ _ _ (sym (c .before .before .command-fault .ensures) ∙ c .enum-told .given .1)
+
+enum-told-2 : tie.Need-enum-told-2
+enum-told-2 c = search needs
+
+returns : tie.Need-returns
+unfolding afterCommand
+returns c =
+    let fault = c .before .before .before .command-fault .ensures in
+    (fault, rw (sym fault ∙ c .before .enum-told .given .1) (c .command-done .ensures))
+
+returns-2 : tie.Need-returns-2
+unfolding afterCommand
+returns-2 c = (search needs, cc)
+
+pub carry-out-spec : {M : Type 1} → statement M
+carry-out-spec =
+    tie.close
+    (tie.spec command-fault-requires enum-told command-done-requires enum-told-2 returns returns-2)

@@ -1,3 +1,0 @@
-pub mod DigitLaws
-pub mod NumberLaws
-pub mod Printing

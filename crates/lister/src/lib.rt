@@ -1,6 +1,0 @@
-// The listing of a UART stream, as text. The rules are `listing`'s.
-mod line;
-mod put;
-mod walk;
-
-pub use walk::list;

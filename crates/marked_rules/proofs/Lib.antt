@@ -1,0 +1,3 @@
+pub mod Setups
+pub mod Marked
+pub mod Starts

@@ -1,4 +1,0 @@
-pub mod Answer
-pub mod Kinds
-pub mod Checks
-pub mod Body

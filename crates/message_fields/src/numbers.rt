@@ -1,0 +1,35 @@
+// Document 01's number of a refusal, and the number of an error byte. The rules are definitions of `message_rules`: `Answer` and `Data`.
+ghost use mathlib.Core.Path.{_≡_};
+ghost use Rattle.message_rules.specs.Answer.{number};
+ghost use Rattle.message_rules.specs.Data.{errorNumber};
+use message_rules::ErrorByte;
+use message_rules::Refusal;
+
+// Document 01's number.
+pub fn refusal_number(refusal: Refusal) -> u8
+    ensures { λ r. ⌜ r ≡ number refusal ⌝ }
+{
+    match refusal {
+        Refusal::Truncated => 1,
+        Refusal::UnknownStart => 2,
+        Refusal::BrokenEscape => 3,
+        Refusal::TrailingBytes => 4,
+        Refusal::IdOutOfRange => 5,
+        Refusal::WrongLength => 6,
+        Refusal::IllegalValue => 7,
+        Refusal::OutputTooShort => 8,
+        Refusal::NotWritable => 9,
+        Refusal::SeriesMismatch => 10,
+        Refusal::IllegalFileSize => 11,
+    }
+}
+
+// The byte on a link that carries it; 0 where it is not told, which such a link never writes.
+pub fn error_number(error: ErrorByte) -> u8
+    ensures { λ r. ⌜ r ≡ errorNumber error ⌝ }
+{
+    match error {
+        ErrorByte::Told(e) => e,
+        ErrorByte::NotTold => 0,
+    }
+}

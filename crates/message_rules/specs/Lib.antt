@@ -1,0 +1,4 @@
+pub mod Answer
+pub mod Kinds
+pub mod Checks
+pub mod Data

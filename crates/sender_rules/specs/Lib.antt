@@ -1,0 +1,3 @@
+pub mod Sender
+pub mod Hearing
+pub mod Sending

@@ -1,4 +1,0 @@
-pub mod Lengths
-pub mod Order
-pub mod RoundTrip
-pub mod Tables

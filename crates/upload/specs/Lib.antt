@@ -1,5 +1,0 @@
-pub mod Sender
-pub mod Round
-pub mod Sending
-pub mod Stored
-pub mod Demand

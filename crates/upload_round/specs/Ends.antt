@@ -1,0 +1,68 @@
+-- What the parts of a round are promised to leave (document 01, "The sender and its rounds").
+use Prim.Native.Nat.{ℕ}
+use mathlib.Core.List.{List, []}
+use mathlib.Core.Path.{_≡_}
+use lib.ListN.{length}
+use Rattle.message_rules.specs.Answer.{Answer, Check, number, passed, failed, within, verdictResult}
+use Rattle.message_rules.specs.declared.Refusal.{Refusal}
+use Rattle.message_rules.specs.declared.Verdict.the-variants.{Refused}
+use Rattle.device_rules.specs.Answers.{afterReceive}
+use Rattle.device_rules.specs.Receive.{Reply, receive}
+use Rattle.device_rules.specs.declared.Device.{Device}
+use Rattle.device_rules.specs.declared.Outcome.{Outcome}
+use Rattle.device_rules.specs.declared.Outcome.the-variants as Outcome·of
+use Rattle.device_rules.specs.declared.UnitAnswer.{UnitAnswer}
+use Rattle.round_rules.specs.Rounds.{nothingSent, made, firstRefusal}
+use Rattle.round_rules.specs.Schedule.{output, exchange, requested}
+use Rattle.round_rules.specs.World.{World, Call, requesterOr, answerCheck}
+use Rattle.round_rules.specs.declared.Fate.{Fate}
+use Rattle.sender_rules.specs.Hearing.{hear}
+use Rattle.sender_rules.specs.Sending.{sending}
+use Rattle.sender_rules.specs.declared.Sender.{Sender}
+use Rattle.upload_round.specs.declared.Rounded.{Rounded}
+
+-- Unit, store and sender, with a request that the sender has written.
+abbrev pub asking : Device → List ℕ → Sender → List ℕ → World Sender
+asking d store s b = record { device = d; store = store; requester = s; request = b; answer = [] }
+
+-- What is left, `left` being the store, is what the calls make, and the refusal is the first of theirs.
+pub record Ends (r : Rounded) (left file : List ℕ) (w : World Sender) (h : List Call) : Type 0 where
+  pub refusal : verdictResult (r .verdict) ≡ firstRefusal (sending file) w h
+  pub device : r .device ≡ made (sending file) w h .device
+  pub sender : r .sender ≡ made (sending file) w h .requester
+  pub store : left ≡ made (sending file) w h .store
+
+-- After the sender's request and its exchange,
+abbrev pub Requested : Rounded → Device → Sender → Fate → List ℕ → List ℕ → Type 0
+Requested r d s f file store = let w = nothingSent d store s in Ends r store file w (requested (sending file) w f)
+
+-- and after the exchange of a request that is written.
+abbrev pub Exchanged : Rounded → Device → Sender → Fate → List ℕ → List ℕ → List ℕ → Type 0
+Exchanged r d s f file store request = let w = asking d store s request in Ends r store file w (exchange (sending file) w f)
+
+-- The unit's answer to a request.
+abbrev pub replyTo : Device → List ℕ → List ℕ → Answer Reply (List ℕ)
+replyTo d store request = within output (receive d (length store) request)
+
+-- After an arrival whose answer nobody hears,
+pub record Arrived (r : UnitAnswer) (d : Device) (store request : List ℕ) : Type 0 where
+  pub refusal : verdictResult (r .verdict) ≡ answerCheck (replyTo d store request)
+  pub device : r .device ≡ afterReceive d (replyTo d store request)
+
+-- which passed unless the unit refused it,
+unfoldable pub outcomeCheck : Outcome → Check
+outcomeCheck (Outcome·of.Answer n) = passed
+outcomeCheck Outcome·of.Silent = passed
+outcomeCheck (Outcome·of.Refused f) = failed (number f)
+
+-- after the sender's answer call,
+pub record Heard (r : Rounded) (d : Device) (s : Sender) (file answer : List ℕ) : Type 0 where
+  pub refusal : verdictResult (r .verdict) ≡ answerCheck (hear s file answer)
+  pub device : r .device ≡ d
+  pub sender : r .sender ≡ requesterOr s (hear s file answer)
+
+-- and after a call that was refused.
+pub record Stopped (r : Rounded) (d : Device) (s : Sender) (f : Refusal) : Type 0 where
+  pub device : r .device ≡ d
+  pub sender : r .sender ≡ s
+  pub verdict : r .verdict ≡ Refused f

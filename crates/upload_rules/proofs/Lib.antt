@@ -1,0 +1,12 @@
+pub mod Counting
+pub mod Files
+pub mod Exchange
+pub mod Served
+pub mod Table
+pub mod Working
+pub mod Asking
+pub mod Arriving
+pub mod Hearing
+pub mod Keeps
+pub mod Begin
+pub mod Demand

@@ -1,0 +1,156 @@
+-- What an exchange does at each stage, in each situation of the unit: the unit afterwards, and what its answer means to the sender. Carried
+-- by the faults of `Faults` and by the exchange over the link.
+use Prim.Native.Nat.{ℕ, _+_, _*_, _-_, _/_, _%_, _≤_, _<_, min}
+use mathlib.Core.Bool.{Bool, true, false, cond}
+use mathlib.Core.List.{List, [], _∷_, _++_}
+use mathlib.Core.Path.{_≡_, refl, _∙_}
+use native.Mathlib.Omega.{arith}
+use borrow.Author.Tests.{eq-eqb, ne-eqb}
+use lib.Dec.{eqb}
+use lib.ListN.{length, getD, take, drop}
+use Rattle.message_rules.specs.Answer.{given, require, about}
+use Rattle.message_rules.specs.Checks.{idLegal, payloadLegal, errorLegal, fieldChecks, errorTold}
+use Rattle.message_rules.specs.Kinds.{inside, isEvent, carriedOn}
+use Rattle.message_rules.specs.declared.Kind.{Kind}
+use Rattle.message_rules.specs.declared.Kind.the-variants.{TelecommandAck, TelecommandNack, TelemetryResponse}
+use Rattle.message_rules.specs.declared.Message.{Message}
+use Rattle.little_endian_rules.specs.LittleEndian.{toBytes, fromBytes}
+use Rattle.file_rules.specs.File.{frameCount, fileFrame}
+use Rattle.link_rules.specs.Link.{linkCarried, linkRead, linkWrite}
+use Rattle.link_rules.specs.declared.Link.{Link}
+use Rattle.link_rules.proofs.RoundTrip.{Underway, id-arrives}
+use Rattle.device_rules.specs.Device.{isFinished, frame, emptyBuffer, withTransfer}
+use Rattle.device_rules.specs.declared.Device.{Device}
+use Rattle.device_rules.specs.declared.Phase.the-variants.{Open, Finished}
+use Rattle.device_rules.specs.Commands.{takeDone, frameDone, transferDone, commandDone, afterCommand}
+use Rattle.device_rules.specs.Receive.{answers, answerTo, infoBytes, commandAnswer, commandReply, telemetryReply, kindReply, messageReply, receive}
+use Rattle.sender_rules.specs.Hearing.{fits, takenError, infoNumber, infoSize, infoChecksum, compared, confirmed, informed, ackMeaning, nackMeaning, infoMeaning, kindMeaning, meaning}
+use Rattle.sender_rules.specs.Sender.{requestKind, requestId}
+use Rattle.sender_rules.specs.declared.Meaning.{Meaning}
+use Rattle.sender_rules.specs.declared.Meaning.the-variants.{Stay, Forward}
+use Rattle.sender_rules.specs.declared.Sender.{Sender}
+use Rattle.sender_rules.specs.declared.Stage.{Stage}
+use Rattle.sender_rules.specs.declared.Stage.the-variants.{Frame, Back, Compare, Take, Confirm}
+use Rattle.round_rules.specs.declared.State.the-variants.{Running}
+use Rattle.upload_rules.proofs.Exchange.{Addressed, requestOf, requestRead, answerOf, Plain, answer-arrives, request-taken, answer-fits}
+use Rattle.sender_rules.proofs.Infos.{info-length, info-compared, info-confirmed}
+use Rattle.sender_rules.proofs.Stages.{taken-on}
+use Rattle.device_rules.proofs.Faults.{transferAt, frame-taken, take-taken, take-pending, take-stored}
+use Rattle.sender_rules.proofs.Situations.{senderAt}
+
+-- Bytes arrive at a unit: it becomes another, and its answer means something to the sender.
+pub record Served (file : List ℕ) (s : Sender) (d : Device) (store : ℕ) (b : List ℕ) (d′ : Device) (x : Meaning) : Type 0 where
+  pub answer : Message
+  pub payload : List ℕ
+  pub bytes : List ℕ
+  pub underway : Underway (s .link) answer payload bytes
+  pub gives : receive d store b ≡ given (answers d′) bytes
+  pub means : meaning s file (linkRead (s .link) bytes) ≡ x
+
+-- The error bit of a unit's flags is never set.
+abbrev flags : Bool → ℕ
+flags b = cond (isFinished (cond b Finished Open)) 1 0
+
+flags-clear : (b : Bool) → eqb (flags b / 2 % 2) 1 ≡ false
+flags-clear true = refl
+flags-clear false = refl
+
+no-event : (stage : Stage) → isEvent (requestKind stage) ≡ false
+no-event Frame = refl
+no-event Back = refl
+no-event Compare = refl
+no-event Take = refl
+no-event Confirm = refl
+
+-- A unit with a transfer of a file of n bytes, and a sender at frame i of it.
+module _ (d : Device) (s t : ℕ) (a : Addressed (d .link) s t (d .own)) (file : List ℕ) (n i store : ℕ) where
+  abbrev l : Link
+  l = d .link
+
+  abbrev own : ℕ
+  own = d .own
+
+  abbrev unit : ℕ → List ℕ → ℕ → Bool → Device
+  unit j buffer buffered pending = withTransfer d (transferAt n j buffer buffered pending)
+
+  abbrev asked : Stage → Message
+  asked stage = requestRead l s t stage
+
+  -- An answer to it.
+  abbrev answer-to : Stage → Kind → ℕ → Message
+  answer-to stage k e = answerOf l own (asked stage) k e 0
+
+  module _ (stage : Stage) (since rounds : ℕ) (b p : List ℕ) (reads : linkRead l b ≡ given (asked stage) p) where
+    served : (j : ℕ) (buffer : List ℕ) (buffered : ℕ) (pending : Bool) (d′ : Device) (k : Kind) (e : ℕ) (q : List ℕ) (x : Meaning)
+        → kindReply (requestKind stage) (unit j buffer buffered pending) store (asked stage) p ≡ about (answers d′) (linkWrite l (answer-to stage k e) q)
+        → Plain (answer-to stage k e) q
+        → kindMeaning k (senderAt l s t n i stage since rounds Running) file (linkCarried l (answer-to stage k e)) q ≡ x
+        → Served file (senderAt l s t n i stage since rounds Running) (unit j buffer buffered pending) store b d′ x
+    unfolding receive messageReply about meaning fits linkCarried carriedOn
+    served j buffer buffered pending d′ k e q x reply plain means =
+        let back = answer-arrives l s t own (asked stage) k e 0 q a plain in
+        let id : linkCarried l (answer-to stage k e) .id ≡ requestId stage =
+        id-arrives l (answer-to stage k e) (plain .plain) ∙ id-arrives l (requestOf (requestKind stage) (requestId stage) s t) (no-event stage) in
+        record {
+          answer = answer-to stage k e;
+          payload = q;
+          bytes = back .0;
+          underway = back .1;
+          gives = rw (reads, request-taken l s t own (requestId stage) (requestKind stage) a, reply, back .1 .wrote);
+          means = rw (back .1 .reads, eq-eqb (linkCarried l (answer-to stage k e) .id) (requestId stage) id, answer-fits l s t own (requestId stage) (requestKind stage) k e 0 a) means;
+        }
+
+  module _ (since rounds : ℕ) (b buffer : List ℕ) (buffered : ℕ) where
+    abbrev sender : Stage → Sender
+    sender stage = senderAt l s t n i stage since rounds Running
+
+    -- A: the frame replaces what is in the buffer, and is acked.
+    pub served-frame : (p : List ℕ) → linkRead l b ≡ given (asked Frame) p → i < frameCount n → 1 ≤ length p → length p ≤ 256
+        → Served file (sender Frame) (unit i buffer buffered false) store b (unit i (p ++ drop (length p) emptyBuffer) (length p) false) Forward
+    unfolding linkCarried carriedOn kindReply commandReply commandAnswer afterCommand commandDone transferDone frameDone answerTo errorTold fieldChecks idLegal payloadLegal errorLegal inside require kindMeaning ackMeaning
+    served-frame p reads h some most =
+        served Frame since rounds b p reads i buffer buffered false _ TelecommandAck 0 [] Forward (rw (frame-taken d n i store buffer buffered p h some most)) (record { plain = refl; tells = refl; fields = refl }) refl
+
+    -- B: frame info tells the size and the checksum of the frame in the buffer.
+    pub served-compare : (p : List ℕ) → linkRead l b ≡ given (asked Compare) p → take buffered buffer ≡ fileFrame file i → length (fileFrame file i) ≤ 256
+        → Served file (sender Compare) (unit i buffer buffered false) store b (unit i buffer buffered false) Forward
+    unfolding linkCarried carriedOn kindReply telemetryReply answerTo errorTold fieldChecks idLegal payloadLegal errorLegal inside require infoBytes frame kindMeaning infoMeaning
+    served-compare p reads loaded most =
+        served Compare since rounds b p reads i buffer buffered false _ TelemetryResponse 0 (infoBytes (transferAt n i buffer buffered false)) Forward refl
+        (record { plain = refl; tells = refl; fields = rw (info-length _ _ _ _) })
+        (rw loaded (info-compared ((i + 65535) % 65536) (fileFrame file i) (flags (eqb i (frameCount n))) most (flags-clear (eqb i (frameCount n)))))
+
+    -- C: take frame i makes it pending, and is acked;
+    pub served-take : linkRead l b ≡ given (asked Take) (toBytes 2 i) → i < frameCount n → i < 65535 → 1 ≤ length (take buffered buffer) → length (take buffered buffer) ≤ n - min (256 * i) n
+        → Served file (sender Take) (unit i buffer buffered false) store b (unit i buffer buffered true) Forward
+    unfolding linkCarried carriedOn kindReply commandReply commandAnswer afterCommand commandDone transferDone takeDone answerTo errorTold fieldChecks idLegal payloadLegal errorLegal inside require kindMeaning ackMeaning
+    served-take reads h small some fits =
+        served Take since rounds b (toBytes 2 i) reads i buffer buffered false _ TelecommandAck 0 [] Forward (rw (take-taken d n i store buffer buffered h small some fits)) (record { plain = refl; tells = refl; fields = refl }) refl
+
+    -- while it is pending the repeat gets nack 6,
+    pub served-pending : linkRead l b ≡ given (asked Take) (toBytes 2 i) → Served file (sender Take) (unit i buffer buffered true) store b (unit i buffer buffered true) Forward
+    unfolding linkCarried carriedOn kindReply commandReply commandAnswer afterCommand answerTo errorTold fieldChecks idLegal payloadLegal errorLegal inside require kindMeaning nackMeaning takenError
+    served-pending reads =
+        served Take since rounds b (toBytes 2 i) reads i buffer buffered true _ TelecommandNack 6 [] Forward (rw (take-pending d n i store buffer buffered)) (record { plain = refl; tells = refl; fields = refl }) (rw (taken-on l 6 refl))
+
+    -- and once it is stored nack 3.
+    pub served-stored : linkRead l b ≡ given (asked Take) (toBytes 2 i) → i < 65535 → Served file (sender Take) (unit (i + 1) buffer buffered false) store b (unit (i + 1) buffer buffered false) Forward
+    unfolding linkCarried carriedOn kindReply commandReply commandAnswer afterCommand answerTo errorTold fieldChecks idLegal payloadLegal errorLegal inside require kindMeaning nackMeaning takenError
+    served-stored reads small =
+        served Take since rounds b (toBytes 2 i) reads (i + 1) buffer buffered false _ TelecommandNack 3 [] Forward (rw (take-stored d n i store buffer buffered small)) (record { plain = refl; tells = refl; fields = refl }) (rw (taken-on l 3 refl))
+
+    -- D: while it is pending frame info tells the number before it,
+    pub served-waiting : (p : List ℕ) → linkRead l b ≡ given (asked Confirm) p → i < 65535 → Served file (sender Confirm) (unit i buffer buffered true) store b (unit i buffer buffered true) Stay
+    unfolding linkCarried carriedOn kindReply telemetryReply answerTo errorTold fieldChecks idLegal payloadLegal errorLegal inside require infoBytes frame kindMeaning infoMeaning
+    served-waiting p reads small =
+        served Confirm since rounds b p reads i buffer buffered true _ TelemetryResponse 0 (infoBytes (transferAt n i buffer buffered true)) Stay refl
+        (record { plain = refl; tells = refl; fields = rw (info-length _ _ _ _) })
+        (info-confirmed ((i + 65535) % 65536) _ _ i (flags (eqb i (frameCount n))) (omega arith) (flags-clear (eqb i (frameCount n))) ∙ rw (ne-eqb ((i + 65535) % 65536) i (omega arith)))
+
+    -- and once it is stored its own.
+    pub served-confirmed : (p : List ℕ) → linkRead l b ≡ given (asked Confirm) p → i < 65535 → Served file (sender Confirm) (unit (i + 1) buffer buffered false) store b (unit (i + 1) buffer buffered false) Forward
+    unfolding linkCarried carriedOn kindReply telemetryReply answerTo errorTold fieldChecks idLegal payloadLegal errorLegal inside require infoBytes frame kindMeaning infoMeaning
+    served-confirmed p reads small =
+        served Confirm since rounds b p reads (i + 1) buffer buffered false _ TelemetryResponse 0 (infoBytes (transferAt n (i + 1) buffer buffered false)) Forward refl
+        (record { plain = refl; tells = refl; fields = rw (info-length _ _ _ _) })
+        (info-confirmed ((i + 1 + 65535) % 65536) _ _ i (flags (eqb (i + 1) (frameCount n))) (omega arith) (flags-clear (eqb (i + 1) (frameCount n))) ∙ rw (eq-eqb ((i + 1 + 65535) % 65536) i (omega arith)))

@@ -1,0 +1,109 @@
+-- Demand 3 (document 01, "The sender and its rounds"): the owner's sentence of rounds that are run, and the same claim of every list of calls.
+-- Quotations that document 01 does not have are the demand's own words.
+use Prim.Native.Nat.{ℕ, _+_, _*_, _≤_, min}
+use mathlib.Core.Bool.{Bool, true, false}
+use mathlib.Core.List.{List, _++_}
+use mathlib.Core.Path.{_≡_}
+use lib.ListN.{length, take, drop}
+use Rattle.message_rules.specs.Answer.{given, passed, within}
+use Rattle.message_rules.specs.declared.Kind.the-variants.{Telecommand}
+use Rattle.message_rules.specs.declared.Message.{Message}
+use Rattle.little_endian_rules.specs.LittleEndian.{fromBytes}
+use Rattle.link_rules.specs.Link.{linkRead}
+use Rattle.link_rules.specs.declared.Link.the-variants.{Rs485}
+use Rattle.file_rules.specs.File.{frameCount}
+use Rattle.device_rules.specs.declared.Device.{Device}
+use Rattle.device_rules.specs.declared.Phase.the-variants as Phase·of
+use Rattle.device_rules.specs.Faults.{commandFault}
+use Rattle.device_rules.specs.declared.Fault.the-variants.{None}
+use Rattle.device_rules.specs.Receive.{answers, receive}
+use Rattle.round_rules.specs.Good.{goodRounds, NoFiftyWithout}
+use Rattle.round_rules.specs.Legal.{Legal, between, Beginning}
+use Rattle.round_rules.specs.Requester.{isRunning}
+use Rattle.round_rules.specs.Rounds.{roundsMade, roundsRefusal}
+use Rattle.round_rules.specs.Schedule.{goods, scheduled, Realised}
+use Rattle.round_rules.specs.World.{World, Call, run}
+use Rattle.round_rules.specs.declared.Round.{Round}
+use Rattle.round_rules.specs.declared.State.the-variants.{Finished, GivenUp}
+use Rattle.sender_rules.specs.Sender.{start, framesKnown}
+use Rattle.sender_rules.specs.Sending.{sending}
+use Rattle.upload_rules.specs.Stored.{framesStored}
+use Rattle.sender_rules.specs.declared.Sender.{Sender}
+
+-- "It starts as the accepted setup (a telecommand 20, carried out) left unit and store, with the sender new."
+pub record Start (file : List ℕ) (w : World Sender) : Type 0 where
+  -- Some unit, in any state, and bytes that arrive at it while the store is lent, with some output:
+  pub unit : Device
+  pub bytes : List ℕ
+  pub output : List ℕ
+  -- they read on its link as telecommand 20 with the file's length,
+  pub message : Message
+  pub payload : List ℕ
+  pub reads : linkRead (unit .link) bytes ≡ given message payload
+  pub command : message .kind ≡ Telecommand
+  pub setup : message .id ≡ 20
+  pub size : fromBytes payload ≡ length file
+  -- the unit answered, and carried it out without a fault;
+  pub ack : List ℕ
+  pub answered : within output (receive unit (length (w .store)) bytes) ≡ given (answers (w .device)) ack
+  pub carriedOut : commandFault unit (length (w .store)) (message .id) payload ≡ None
+  -- and a sender was started on the same link for a file of this length, on RS485 to the unit's own address.
+  pub source : ℕ
+  pub destination : ℕ
+  pub started : start (unit .link) source destination (length file) ≡ given (w .requester) tt
+  pub addressed : unit .link ≡ Rs485 → destination ≡ unit .own
+
+-- What unit, store and sender of a moment have, where k frames are stored; the setup left this store.
+pub record Holds (file setupStore : List ℕ) (k : ℕ) (v : World Sender) : Type 0 where
+  -- "The store holds a beginning of the file in whole frames, each stored once": "the file's first 256 times k bytes, or all if it has fewer, and
+  -- its other bytes stay"; so many bytes count as stored;
+  pub beginning : (v .store ≡ take (256 * k) file ++ drop (min (256 * k) (length file)) setupStore) × (v .device .transfer .stored ≡ min (256 * k) (length file))
+  -- "when it has finished, the store holds the file": at its start, the unit is finished and all frames are known;
+  pub whole : v .requester .state ≡ Finished
+      → (take (length file) (v .store) ≡ file) × (v .device .transfer .phase ≡ Phase·of.Finished) × (framesKnown (v .requester) ≡ frameCount (length file))
+  -- "it reports frames known stored": they are k or one fewer, so that "on giving up [..] the store holds the frames known, or one more".
+  pub known : (framesKnown (v .requester) ≤ k) × (k ≤ framesKnown (v .requester) + 1)
+
+-- What is claimed of it, after these rounds:
+pub record Claim (file setupStore : List ℕ) (k : ℕ) (v : World Sender) (rounds : List Bool) : Type 0 where
+  pub holds : Holds file setupStore k v
+  -- "after 200 rounds a frame the sender has ended";
+  pub ended : 200 * frameCount (length file) ≤ length rounds → isRunning (v .requester .state) ≡ false
+  -- "where no fifty rounds in a row lack a good one it doesn't give up,
+  pub persists : NoFiftyWithout rounds → v .requester .state ≡ GivenUp → ⊥
+  -- and has finished after four good rounds a frame".
+  pub finishes : NoFiftyWithout rounds → 4 * frameCount (length file) ≤ goodRounds rounds → v .requester .state ≡ Finished
+
+-- The rounds that a sender had of these: "its rounds are over" with its end.
+abbrev pub ownRounds : Sender → List Round → List Bool
+ownRounds s rs = take (s .rounds) (goods rs)
+
+-- The claim of rounds that are run one after the other, and of the sender's own among them; k is counted from their calls.
+pub record Uploaded (file : List ℕ) (w : World Sender) (rs : List Round) : Type 0 where
+  pub claim : let v = roundsMade (sending file) w rs in
+      Claim file (w .store) (framesStored (sending file) w (scheduled (sending file) w rs) (frameCount (length file))) v (ownRounds (v .requester) rs)
+  -- "And rounds used (all it had)": while it runs they are all of these.
+  pub used : let s = roundsMade (sending file) w rs .requester in (s .rounds ≤ length rs) × (isRunning (s .state) ≡ true → s .rounds ≡ length rs)
+  -- No call of theirs is refused.
+  pub unrefused : roundsRefusal (sending file) w rs ≡ passed
+
+-- The owner's sentence: after an accepted setup, whatever rounds follow. Every beginning of a sequence is one, so it holds after every round.
+abbrev pub EveryUpload : Type 0
+EveryUpload = (file : List ℕ) (w : World Sender) → Start file w → (rs : List Round) → Uploaded file w rs
+
+-- The claim of a list of calls h with its rounds: "rounds used (all it had)" are those.
+pub record Upheld (file : List ℕ) (w : World Sender) (h : List Call) (rounds : List Bool) : Type 0 where
+  pub claim : Claim file (w .store) (framesStored (sending file) w h (frameCount (length file))) (run (sending file) w h) rounds
+  pub used : run (sending file) w h .requester .rounds ≡ length rounds
+
+-- "One claim about the whole list": it holds at its end, and "after every call".
+pub record Throughout (file : List ℕ) (w : World Sender) (h : List Call) (rounds : List Bool) : Type 0 where
+  pub end : Upheld file w h rounds
+  pub every : (past rest : List Call) → h ≡ past ++ rest → (b : Beginning (sending file) w between rounds past) × Upheld file w past (b .first)
+
+abbrev pub Demand : Type 0
+Demand = (file : List ℕ) (w : World Sender) → Start file w → (h : List Call) (rounds : List Bool) → Legal (sending file) w between h rounds → Throughout file w h rounds
+
+-- Every sequence of rounds gives such a list.
+abbrev pub EverySchedule : Type 0
+EverySchedule = (file : List ℕ) (w : World Sender) → Start file w → (rs : List Round) → Realised (sending file) w rs
