@@ -10,7 +10,7 @@ use borrow.Author.Tests.{ne-eqb, leb-true}
 use lib.Dec.{leb}
 use lib.ListN.{length, getD, take, drop, length-append, length-drop}
 use lib.Seq.{drop-at, length-take-le, sets, sets-eq}
-use Rattle.message_rules.specs.Answer.{Answer, Check, refused, given, number, passed, require, after, within, counted, outputAfter, written, verdictResult}
+use Rattle.message_rules.specs.Answer.{Answer, Check, refused, given, refusalNumber, passed, require, after, within, counted, outputAfter, written, verdictResult}
 use Rattle.message_rules.specs.declared.Message.{Message}
 use Rattle.message_rules.specs.declared.Refusal.{Refusal}
 use Rattle.message_rules.specs.declared.Verdict.{Verdict}
@@ -80,7 +80,7 @@ module _ (b : List ℕ) (left n : ℕ) (frames : measured (allFrames b) ≡ give
         let g = counted-given (allFrames b) _ n (scanned .0) in
         ap (complete b) (g .0) ∙ complete-checked b _ (payload (allFrames b)) (omega (arith, scanned .1)) ∙ rw (g .1, says, first)
 
-    pub whole-refused : (r : Refusal) → v ≡ Refused r → canRead b ≡ refused (number r)
+    pub whole-refused : (r : Refusal) → v ≡ Refused r → canRead b ≡ refused (refusalNumber r)
     unfolding after verdictResult
     whole-refused r e = whole-checked ∙ rw e
 
@@ -177,7 +177,7 @@ pub record Turn (b whole out : List ℕ) (size at to : ℕ) : Type 0 where
   pub low : 1 ≤ getD b (at + 4) 0
   pub high : getD b (at + 4) 0 ≤ 8
   pub taken : length (take (getD b (at + 4) 0 - 1) (drop (at + 5) b)) ≡ getD b (at + 4) 0 - 1
-  pub within : to + (getD b (at + 4) 0 - 1) ≤ size
+  pub inside : to + (getD b (at + 4) 0 - 1) ≤ size
   pub next : Storing b whole (sets out to (take (getD b (at + 4) 0 - 1) (drop (at + 5) b))) size (at + 13) (to + (getD b (at + 4) 0 - 1))
 
 store-turn : (b whole out : List ℕ) (size at to n : ℕ) (p : List ℕ) → Run b n at p → to + length p ≡ size → sets out to p ≡ whole → to < size → Turn b whole out size at to
@@ -195,7 +195,7 @@ store-turn b whole out size at to (suc n) p run fits same more =
       low = run .1;
       high = run .2;
       taken = long;
-      within = omega (arith, long, sizes);
+      inside = omega (arith, long, sizes);
       next = record { left = n; rest = drop k p; run = run .4; fits = omega (arith, long, sizes); same = stored };
     }
 

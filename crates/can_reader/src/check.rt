@@ -15,7 +15,7 @@ use message_rules::Verdict;
 fn kind_of_type(t: u8) -> Kind
     ensures { λ r. ⌜ r ≡ kindOfType t ⌝ }
 {
-    match message_fields::type_kind(t) {
+    match message_kinds::type_kind(t) {
         KindLookup::Known(kind) => kind,
         KindLookup::Unknown => series_kind(t),
     }
@@ -35,7 +35,7 @@ fn series_kind(t: u8) -> Kind
 fn can_error(kind: Kind) -> ErrorByte
     ensures { λ r. ⌜ r ≡ canError kind ⌝ }
 {
-    if message_fields::is_nack(kind) {
+    if message_kinds::is_nack(kind) {
         return ErrorByte::NotTold;
     }
     ErrorByte::Told(0)
@@ -76,18 +76,18 @@ pub(crate) fn check_message(t: u8, message: Message, size: usize) -> Verdict
 fn can_id_legal(kind: Kind, id: u8) -> bool
     ensures { λ r. ⌜ r ≡ canIdLegal kind id ⌝ }
 {
-    if message_fields::is_event(kind) {
+    if message_kinds::is_event(kind) {
         return id == 255;
     }
-    message_checks::id_legal(kind, id)
+    message_ranges::id_legal(kind, id)
 }
 
 // The kind can have a payload of this size, and a series has more than a frame's data.
 fn can_fits(t: u8, kind: Kind, size: usize) -> bool
     ensures { λ r. ⌜ r ≡ canFits t kind size ⌝ }
 {
-    if !message_checks::payload_legal(kind, size) {
+    if !message_ranges::payload_legal(kind, size) {
         return false;
     }
-    t < can_rules::FIRST_SERIES || can_rules::DATA < size
+    t < can_rules::FIRST_SERIES || can_rules::DATA_SIZE < size
 }

@@ -70,6 +70,6 @@ fn copy_series(bytes: &[u8], size: usize, out: &mut [u8])
         let n = bytes[at + 4] as usize - 1;
         message_output::put(&bytes[at + 5..at + 5 + n], &mut out[to..]);
         to += n;
-        at += can_rules::FRAME;
+        at += can_rules::FRAME_SIZE;
     }
 }

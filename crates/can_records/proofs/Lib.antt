@@ -1,3 +1,3 @@
 pub mod Filling
 pub mod Form
-pub mod Row
+pub mod Arrays

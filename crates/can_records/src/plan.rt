@@ -3,7 +3,7 @@ ghost use mathlib.Core.Path.{_≡_};
 ghost use Rattle.message_rules.specs.Answer.{writeResult};
 ghost use Rattle.can_rules.specs.Can.{canWrite};
 ghost use Rattle.can_records.specs.Plan.{inFrames, toFill, Planned};
-use can_rules::FRAME;
+use can_rules::FRAME_SIZE;
 use can_rules::LONGEST_SERIES;
 use message_rules::Message;
 use message_rules::Refusal;
@@ -38,7 +38,7 @@ fn in_frames(written: WriteAnswer, room: usize) -> WriteAnswer
     match written {
         WriteAnswer::Refused(refusal) => WriteAnswer::Refused(refusal),
         WriteAnswer::Length(size) => {
-            let count = size / FRAME;
+            let count = size / FRAME_SIZE;
             if room < count {
                 return WriteAnswer::Refused(Refusal::OutputTooShort);
             }

@@ -11,7 +11,7 @@ use lib.ListN.{length, getD, take, drop, replicate, drop-of-length-le, length-ap
 use lib.Seq.{take-all, take-take, take-suc, length-take-le, take-at, drop-at, getD-at}
 use Rattle.message_rules.specs.Answer.{require, after, given}
 use Rattle.message_rules.proofs.Checks.{both-true}
-use Rattle.can_rules.specs.Can.{frame, typeLegal, zeros, firstFits, firstChecks, laterFits, sameBytes, laterChecks, prepend, laterFrames, allFrames}
+use Rattle.can_rules.specs.Can.{canFrame, typeLegal, zeros, firstFits, firstChecks, laterFits, sameBytes, laterChecks, prepend, laterFrames, allFrames}
 
 zeros-replicate : (n : ℕ) → zeros (replicate n 0) ≡ true
 unfolding zeros
@@ -40,8 +40,8 @@ front-used q n s r =
 
 module _ (a b c t : ℕ) (q : List ℕ) (n : ℕ) (rest : List ℕ) (short : length q ≤ 7) where
   pub later-frame : typeLegal t ≡ true → laterFits n (length (q ++ (n ∷ []))) ≡ true
-      → laterFrames (a ∷ b ∷ c ∷ t ∷ []) (suc n) (frame (a ∷ b ∷ c ∷ t ∷ []) (q ++ (n ∷ [])) ++ rest) ≡ prepend q (laterFrames (a ∷ b ∷ c ∷ t ∷ []) n rest)
-  unfolding laterFrames laterChecks frame require after
+      → laterFrames (a ∷ b ∷ c ∷ t ∷ []) (suc n) (canFrame (a ∷ b ∷ c ∷ t ∷ []) (q ++ (n ∷ [])) ++ rest) ≡ prepend q (laterFrames (a ∷ b ∷ c ∷ t ∷ []) n rest)
+  unfolding laterFrames laterChecks canFrame require after
   later-frame legal fits =
       let i = a ∷ b ∷ c ∷ t ∷ [] in
       let d = q ++ (n ∷ []) in
@@ -52,8 +52,8 @@ module _ (a b c t : ℕ) (q : List ℕ) (n : ℕ) (rest : List ℕ) (short : len
 
   -- The first frame of a series has seven payload bytes and its count.
   pub first-frame : typeLegal t ≡ true → leb 7 t ≡ true → length q ≡ 7 → leb 1 n && leb n 36 ≡ true
-      → allFrames (frame (a ∷ b ∷ c ∷ t ∷ []) (q ++ (n ∷ [])) ++ rest) ≡ prepend q (laterFrames (a ∷ b ∷ c ∷ t ∷ []) n rest)
-  unfolding allFrames firstChecks firstFits frame require after
+      → allFrames (canFrame (a ∷ b ∷ c ∷ t ∷ []) (q ++ (n ∷ [])) ++ rest) ≡ prepend q (laterFrames (a ∷ b ∷ c ∷ t ∷ []) n rest)
+  unfolding allFrames firstChecks firstFits canFrame require after
   first-frame legal long seven count =
       let d = q ++ (n ∷ []) in
       let z : List ℕ = replicate (8 - length d) 0 in
@@ -75,8 +75,8 @@ any-count t n k h = rw h
 
 -- A single frame.
 pub single-frame : (a b c t : ℕ) (p : List ℕ) → length p ≤ 8 → typeLegal t ≡ true → leb 7 t ≡ false → firstFits t (length p) 0 ≡ true
-    → allFrames (frame (a ∷ b ∷ c ∷ t ∷ []) p) ≡ given [] p
-unfolding allFrames firstChecks frame require after
+    → allFrames (canFrame (a ∷ b ∷ c ∷ t ∷ []) p) ≡ given [] p
+unfolding allFrames firstChecks canFrame require after
 single-frame a b c t p short legal single fits =
     let z : List ℕ = replicate (8 - length p) 0 in
     let eight : length (p ++ z) ≡ 8 = padded p short in
@@ -105,8 +105,8 @@ same-bytes (a ∷ r) (b ∷ s) h =
 
 -- and a frame with zeros past its DLC is its used bytes as they are written, with what follows it.
 pub frame-back : (a b c t n : ℕ) (s : List ℕ) → 8 ≤ length s → n ≤ 8 → zeros (drop n (take 8 s)) ≡ true
-    → a ∷ b ∷ c ∷ t ∷ n ∷ s ≡ frame (a ∷ b ∷ c ∷ t ∷ []) (take n s) ++ drop 8 s
-unfolding frame
+    → a ∷ b ∷ c ∷ t ∷ n ∷ s ≡ canFrame (a ∷ b ∷ c ∷ t ∷ []) (take n s) ++ drop 8 s
+unfolding canFrame
 frame-back a b c t n s long short h =
     let size : length (take n s) ≡ n = length-take-le n s (omega arith) in
     let left : length (drop n (take 8 s)) ≡ 8 - n = rw (length-drop, length-take-le 8 s long) in

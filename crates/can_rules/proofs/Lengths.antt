@@ -15,7 +15,7 @@ use Rattle.message_rules.specs.declared.Kind.{Kind}
 use Rattle.message_rules.specs.declared.Message.{Message}
 use Rattle.message_rules.proofs.Answers.{after-given}
 use Rattle.message_rules.proofs.Checks.{payload-most}
-use Rattle.can_rules.specs.Can.{longestSeries, seriesType, identifier, frame, series, framesAfter, inSeries, canBytes, canCarries, canWrite}
+use Rattle.can_rules.specs.Can.{longestSeries, seriesType, identifier, canFrame, series, framesAfter, inSeries, canBytes, canCarries, canWrite}
 
 pub identifier-length : (t : ℕ) (m : Message) → length (identifier t m) ≡ 4
 unfolding identifier
@@ -23,12 +23,12 @@ identifier-length t m = refl
 
 -- A frame takes 13 bytes, and a series 13 for each of its frames.
 module _ (i : List ℕ) (four : length i ≡ 4) where
-  pub frame-length : (d : List ℕ) → length d ≤ 8 → length (frame i d) ≡ 13
-  unfolding frame
+  pub frame-length : (d : List ℕ) → length d ≤ 8 → length (canFrame i d) ≡ 13
+  unfolding canFrame
   frame-length d h = simp (length-append, length-replicate) (omega arith)
 
   -- The data of a frame of a series: at most 7 bytes, and the count.
-  counted-length : (d : List ℕ) (count : ℕ) → length d ≤ 7 → length (frame i (d ++ (count ∷ []))) ≡ 13
+  counted-length : (d : List ℕ) (count : ℕ) → length d ≤ 7 → length (canFrame i (d ++ (count ∷ []))) ≡ 13
   counted-length d count h = frame-length (d ++ (count ∷ [])) (rw length-append (omega arith))
 
   pub series-length : (n : ℕ) (p : List ℕ) → n * 7 ≤ length p → length p < n * 7 + 7 → length (series i n p) ≡ 13 * (n + 1)
@@ -59,7 +59,7 @@ unfolding canBytes
 bytes-most m p h = by (inSeries (m .kind) (length p)) refl
   where
     by : (t : Bool) → inSeries (m .kind) (length p) ≡ t → length (canBytes m p) ≤ longestSeries
-    by true q = rw (q, message-length (seriesType (m .kind)) m p) (omega arith)
+    by true q = rw (q, message-length (seriesType (typeNumber (m .kind))) m p) (omega arith)
     by false q =
         let i = identifier (typeNumber (m .kind)) m in
         rw (q, frame-length i (identifier-length (typeNumber (m .kind)) m) p (single-most (m .kind) (length p) q)) (omega arith)

@@ -1,5 +1,6 @@
 pub mod Frames
 pub mod Lengths
 pub mod Order
+pub mod Records
 pub mod RoundTrip
 pub mod Series

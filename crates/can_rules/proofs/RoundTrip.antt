@@ -16,13 +16,13 @@ use Rattle.message_rules.specs.declared.Kind.the-variants.{Telecommand, Telecom
 use Rattle.message_rules.specs.declared.Message.{Message}
 use Rattle.message_rules.proofs.Answers.{after-given}
 use Rattle.message_rules.proofs.Checks.{require-passed, both-true, fields-passed, fields-pass}
-use Rattle.can_rules.specs.Can.{seriesType, seriesKind, kindOr, kindOfType, identifier, frame, inSeries, series, framesAfter, canBytes, canCarries, canWrite, typeLegal, firstFits, laterFits, prepend, laterFrames, allFrames, canError, canMessage, canIdLegal, canFits, messageChecks, complete, canRead}
+use Rattle.can_rules.specs.Can.{seriesType, seriesKind, kindOr, kindOfType, identifier, canFrame, inSeries, series, framesAfter, canBytes, canCarries, canWrite, typeLegal, firstFits, laterFits, prepend, laterFrames, allFrames, canError, canMessage, canIdLegal, canFits, messageChecks, complete, canRead}
 use Rattle.can_rules.proofs.Frames.{later-frame, first-frame, single-frame}
 use Rattle.can_rules.proofs.Series.{single-type, series-type, single-back, series-all-back}
 
 -- What a payload that a kind can have says of the kind's type, in a series
 series-kind : (k : Kind) (n : ℕ) → payloadLegal k n ≡ true → inSeries k n ≡ true
-    → (typeLegal (seriesType k) ≡ true) × (leb 7 (seriesType k) ≡ true) × (kindOfType (seriesType k) ≡ k) × (canFits (seriesType k) k n ≡ true) × (8 < n) × (n ≤ 256)
+    → (typeLegal (seriesType (typeNumber k)) ≡ true) × (leb 7 (seriesType (typeNumber k)) ≡ true) × (kindOfType (seriesType (typeNumber k)) ≡ k) × (canFits (seriesType (typeNumber k)) k n ≡ true) × (8 < n) × (n ≤ 256)
 unfolding payloadLegal inside inSeries typeLegal seriesType kindOfType kindOr seriesKind typeKind canFits
 series-kind Telecommand n p s = let long = ltb-true 8 n s in let most = both-true (leb 0 n) (leb n 256) p in (refl, refl, refl, rw p (lt-ltb _ n (omega arith)), long, leb-true n 256 (most .1))
 series-kind TelecommandAck n p s = absurd (omega (arith, leb-true n 0 (both-true (leb 0 n) (leb n 0) p .1), ltb-true 8 n s))
@@ -51,7 +51,7 @@ unfolding series laterFits laterFrames prepend
 series-reads a b c t zero p legal low high =
     let size : length (p ++ (0 ∷ [])) ≡ length p + 1 = rw length-append in
     let fits : laterFits 0 (length (p ++ (0 ∷ []))) ≡ true = rw (size, le-leb 1 (length p + 1) (omega arith), le-leb (length p + 1) 7 (omega arith)) in
-    rw (append-nil (frame (a ∷ b ∷ c ∷ t ∷ []) (p ++ (0 ∷ [])))) at (later-frame a b c t p 0 [] (omega arith) legal fits) ∙ rw append-nil
+    rw (append-nil (canFrame (a ∷ b ∷ c ∷ t ∷ []) (p ++ (0 ∷ [])))) at (later-frame a b c t p 0 [] (omega arith) legal fits) ∙ rw append-nil
 series-reads a b c t (suc n) p legal low high =
     let seven : length (take 7 p) ≡ 7 = length-take-le 7 p (omega arith) in
     let size : length (take 7 p ++ (suc n ∷ [])) ≡ 8 = simp length-append (omega (arith, seven)) in
@@ -89,13 +89,13 @@ complete-given b dst src id t p k h0 h1 h2 h3 hk hid fits = rw (h0, h1, h2, h3, 
 
 series-fields : (a b c t n : ℕ) (p : List ℕ)
     → (getD (series (a ∷ b ∷ c ∷ t ∷ []) n p) 0 0 ≡ a) × (getD (series (a ∷ b ∷ c ∷ t ∷ []) n p) 1 0 ≡ b) × (getD (series (a ∷ b ∷ c ∷ t ∷ []) n p) 2 0 ≡ c) × (getD (series (a ∷ b ∷ c ∷ t ∷ []) n p) 3 0 ≡ t)
-unfolding series frame
+unfolding series canFrame
 series-fields a b c t zero p = (refl, refl, refl, refl)
 series-fields a b c t (suc n) p = (refl, refl, refl, refl)
 
 -- Reading what was written returns every carried field and the payload. CAN carries the addresses, and nothing that tells the error.
 pub bytes-read : (m : Message) (p : List ℕ) → idLegal (m .kind) (m .id) ≡ true → payloadLegal (m .kind) (length p) ≡ true → canRead (canBytes m p) ≡ given (carriedOn true false m) p
-unfolding canRead canBytes framesAfter identifier canError carriedOn errorCarried indexCarried frame
+unfolding canRead canBytes framesAfter identifier canError carriedOn errorCarried indexCarried canFrame
 bytes-read m p legal fits = by (inSeries (m .kind) (length p)) refl
   where
     -- the ID as it is written
@@ -108,9 +108,9 @@ bytes-read m p legal fits = by (inSeries (m .kind) (length p)) refl
     by : (b : Bool) → inSeries (m .kind) (length p) ≡ b → canRead (canBytes m p) ≡ given (carriedOn true false m) p
     by true q =
         let s = series-kind (m .kind) (length p) fits q in
-        let f = series-fields (m .destination) (m .source) id (seriesType (m .kind)) (length p / 7) p in
-        rw (q, series-all (m .destination) (m .source) id (seriesType (m .kind)) (length p / 7) p (s .0) (s .1) (s .4) (s .5) refl)
-        (complete-given _ _ _ id (seriesType (m .kind)) p (m .kind) (f .0) (f .1) (f .2) (f .3) (s .2) legal-id (s .3))
+        let f = series-fields (m .destination) (m .source) id (seriesType (typeNumber (m .kind))) (length p / 7) p in
+        rw (q, series-all (m .destination) (m .source) id (seriesType (typeNumber (m .kind))) (length p / 7) p (s .0) (s .1) (s .4) (s .5) refl)
+        (complete-given _ _ _ id (seriesType (typeNumber (m .kind))) p (m .kind) (f .0) (f .1) (f .2) (f .3) (s .2) legal-id (s .3))
     by false q =
         let s = single-kind (m .kind) (length p) fits q in
         rw (q, single-frame (m .destination) (m .source) id (typeNumber (m .kind)) p (s .5) (s .0) (s .1) (s .3))

@@ -12,7 +12,7 @@ use Rattle.message_rules.specs.Answer.{Answer, refused, given}
 use Rattle.message_rules.specs.Kinds.{isEvent, typeNumber, typeKind}
 use Rattle.message_rules.proofs.Answers.{after-passed}
 use Rattle.message_rules.proofs.Checks.{require-passed, both-true}
-use Rattle.can_rules.specs.Can.{seriesType, seriesKind, kindOr, kindOfType, frame, series, typeLegal, zeros, firstFits, firstChecks, allFrames, laterFits, sameBytes, laterChecks, prepend, laterFrames}
+use Rattle.can_rules.specs.Can.{seriesType, seriesKind, kindOr, kindOfType, canFrame, series, typeLegal, zeros, firstFits, firstChecks, allFrames, laterFits, sameBytes, laterChecks, prepend, laterFrames}
 use Rattle.can_rules.proofs.Frames.{same-bytes, frame-back, used-count}
 
 -- What a payload in front leaves after it.
@@ -35,7 +35,7 @@ pub record Later (i : List ℕ) (n : ℕ) (s rest p : List ℕ) : Type 0 where
   pub front : List ℕ
   pub after : List ℕ
   pub left : List ℕ
-  pub whole : s ≡ frame i (front ++ (n ∷ [])) ++ after
+  pub whole : s ≡ canFrame i (front ++ (n ∷ [])) ++ after
   pub fits : laterFits n (length front + 1) ≡ true
   pub again : laterFrames i n after ≡ given rest left
   pub parts : front ++ left ≡ p
@@ -91,7 +91,7 @@ series-back i zero s rest p e =
     let all : l .front ≡ p = sym (append-nil (l .front)) ∙ rw none (l .parts) in
     let g = both-true (leb 1 (length (l .front) + 1)) (leb (length (l .front) + 1) 7) (l .fits) in
     let high = leb-true (length (l .front) + 1) 7 (g .1) in (
-      l .whole ∙ ap (λ (x : List ℕ). frame i (l .front ++ (0 ∷ [])) ++ x) after ∙ ap (λ (x : List ℕ). frame i (x ++ (0 ∷ [])) ++ rest) all,
+      l .whole ∙ ap (λ (x : List ℕ). canFrame i (l .front ++ (0 ∷ [])) ++ x) after ∙ ap (λ (x : List ℕ). canFrame i (x ++ (0 ∷ [])) ++ rest) all,
       omega arith,
       omega (arith, high, ap length all),
     )
@@ -119,7 +119,7 @@ single-type (suc (suc (suc (suc (suc zero))))) legal h = (refl, refl)
 single-type (suc (suc (suc (suc (suc (suc zero)))))) legal h = (refl, refl)
 single-type (suc (suc (suc (suc (suc (suc (suc t))))))) legal h = absurd (omega (arith, leb-false 7 (suc (suc (suc (suc (suc (suc (suc t))))))) h))
 
-pub series-type : (t : ℕ) → typeLegal t ≡ true → leb 7 t ≡ true → seriesType (kindOfType t) ≡ t
+pub series-type : (t : ℕ) → typeLegal t ≡ true → leb 7 t ≡ true → seriesType (typeNumber (kindOfType t)) ≡ t
 unfolding typeLegal kindOfType kindOr seriesKind typeKind seriesType
 series-type zero legal h = absurd (let z : _≡_ {A = ℕ} 0 1 = cc in omega arith)
 series-type (suc zero) legal h = absurd (let z : _≡_ {A = ℕ} 0 1 = cc in omega arith)
@@ -168,7 +168,7 @@ first-checked a b c t l s rest p e =
     (omega arith, h2 .0, h6 .0, h7 .0, f .1)
 
 pub single-back : (a b c t l : ℕ) (s rest p : List ℕ) → leb 7 t ≡ false → allFrames (a ∷ b ∷ c ∷ t ∷ l ∷ s) ≡ given rest p
-    → (a ∷ b ∷ c ∷ t ∷ l ∷ s ≡ frame (a ∷ b ∷ c ∷ t ∷ []) p ++ rest) × (length p ≤ 8) × (typeLegal t ≡ true)
+    → (a ∷ b ∷ c ∷ t ∷ l ∷ s ≡ canFrame (a ∷ b ∷ c ∷ t ∷ []) p ++ rest) × (length p ≤ 8) × (typeLegal t ≡ true)
 single-back a b c t l s rest p h e =
     let f = first-checked a b c t l s rest p e in
     let g : given (drop 8 s) (take l s) ≡ given rest p = rw h at (f .4) in
@@ -198,6 +198,6 @@ series-all-back a b c t l s rest p h e =
     let front : take 7 p ≡ take 7 s = ap (λ (x : List ℕ). take 7 x) (sym (r .2)) ∙ take-at (take 7 s) (r .0) 7 seven in
     let left : drop 7 p ≡ r .0 = ap (λ (x : List ℕ). drop 7 x) (sym (r .2)) ∙ drop-at (take 7 s) (r .0) 7 seven in
     let used : take 8 s ≡ take 7 s ++ (suc k ∷ []) = used-count 8 s (omega arith) (f .0) ∙ ap (λ (n : ℕ). take 7 s ++ (n ∷ [])) count-is in
-    let whole : a ∷ b ∷ c ∷ t ∷ l ∷ s ≡ frame i (take 8 s) ++ drop 8 s =
+    let whole : a ∷ b ∷ c ∷ t ∷ l ∷ s ≡ canFrame i (take 8 s) ++ drop 8 s =
     rw (d .0) (frame-back a b c t 8 s (f .0) (omega arith) (rw (d .0) at (f .3))) in
     (whole ∙ rw (frames, front, left, used, append-assoc, ← back .0), f .1)

@@ -35,12 +35,12 @@ abbrev pub longestSeries : ℕ
 longestSeries = frameSize * (mostLater + 1)
 
 -- "Types 1..6 are tc, tcack, tcnack, tlmreq, tlmrsp, tlmnack; 7 is a long tc, 8 a long tlmrsp, 9 an event": the first type of a series, and
--- a kind's type in one. A tc is 1 and a tlmrsp 5 in a single frame, and an event is always 9; the other kinds are never in a series.
+-- the type in a series for the one in a single frame: a tc's, a tlmrsp's, and an event's own. The other kinds are never in a series.
 abbrev pub firstSeries : ℕ
 firstSeries = 7
 
-unfoldable pub seriesType : Kind → ℕ
-seriesType k = cond (eqb (typeNumber k) 1) 7 (cond (eqb (typeNumber k) 5) 8 (typeNumber k))
+unfoldable pub seriesType : ℕ → ℕ
+seriesType t = cond (eqb t 1) 7 (cond (eqb t 5) 8 t)
 
 -- The kind of a type 1..9: that of a single frame, or else of a series.
 unfoldable pub seriesKind : ℕ → Kind
@@ -59,8 +59,8 @@ unfoldable pub identifier : ℕ → Message → List ℕ
 identifier t m = m .destination ∷ m .source ∷ cond (isEvent (m .kind)) 255 (m .id) ∷ t ∷ []
 
 -- "Identifier (4), DLC, eight data bytes, those past the DLC zero."
-unfoldable pub frame : List ℕ → List ℕ → List ℕ
-frame i d = i ++ (length d ∷ (d ++ replicate (dataSize - length d) 0))
+unfoldable pub canFrame : List ℕ → List ℕ → List ℕ
+canFrame i d = i ++ (length d ∷ (d ++ replicate (dataSize - length d) 0))
 
 -- "A payload of 9..256 bytes, or an event, goes as a series."
 unfoldable pub inSeries : Kind → ℕ → Bool
@@ -69,8 +69,8 @@ inSeries k n = isEvent k || ltb dataSize n
 -- "Each frame's last used byte is the count of frames still to come." Seven payload bytes in each frame but the last, which has
 -- what is left.
 unfoldable pub series : List ℕ → ℕ → List ℕ → List ℕ
-series i zero p = frame i (p ++ (0 ∷ []))
-series i (suc n) p = frame i (take partSize p ++ (suc n ∷ [])) ++ series i n (drop partSize p)
+series i zero p = canFrame i (p ++ (0 ∷ []))
+series i (suc n) p = canFrame i (take partSize p ++ (suc n ∷ [])) ++ series i n (drop partSize p)
 
 -- "The number of frames is the whole part of L/7, plus one": so many come after the first.
 unfoldable pub framesAfter : ℕ → ℕ
@@ -78,10 +78,10 @@ framesAfter n = n / partSize
 
 -- A message as a series, and as one frame.
 abbrev pub seriesBytes : Message → List ℕ → List ℕ
-seriesBytes m p = series (identifier (seriesType (m .kind)) m) (framesAfter (length p)) p
+seriesBytes m p = series (identifier (seriesType (typeNumber (m .kind))) m) (framesAfter (length p)) p
 
 abbrev pub singleBytes : Message → List ℕ → List ℕ
-singleBytes m p = frame (identifier (typeNumber (m .kind)) m) p
+singleBytes m p = canFrame (identifier (typeNumber (m .kind)) m) p
 
 -- The 13-byte form of a message.
 unfoldable pub canBytes : Message → List ℕ → List ℕ

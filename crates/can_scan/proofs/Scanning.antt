@@ -162,10 +162,10 @@ module _ (b i : List ℕ) (n at : ℕ) where
       rw (← getD-drop at b 4 0, ← getD-take 13 (drop at b) 4 0 (omega arith)) (later-dlc n (getD f 4 0) (h6 .0))
 
   -- The same of what the checks told, for the 13 bytes as the code takes them.
-  pub told-passed : (v : Verdict) → verdictResult v ≡ laterChecks i n (take (at + 13 - at) (drop at b)) → v ≡ Passed
+  pub result-passed : (v : Verdict) → verdictResult v ≡ laterChecks i n (take (at + 13 - at) (drop at b)) → v ≡ Passed
       → (laterChecks i n (take 13 (drop at b)) ≡ passed) × (1 ≤ getD b (at + 4) 0) × (getD b (at + 4) 0 ≤ 8)
   unfolding verdictResult
-  told-passed v e p =
+  result-passed v e p =
       let passes = sym (rw add-sub-cancel-left at e) ∙ ap verdictResult p in
       let d = passed-dlc passes in
       (passes, d .0, d .1)

@@ -3,7 +3,7 @@
 use Prim.Native.Nat.{ℕ}
 use mathlib.Core.List.{List}
 use lib.ListN.{length}
-use Rattle.message_rules.specs.Answer.{Answer, refused, given, number}
+use Rattle.message_rules.specs.Answer.{Answer, refused, given, refusalNumber}
 use Rattle.can_scan.specs.declared.Frames.{Frames}
 use Rattle.can_scan.specs.declared.Frames.the-variants as Frames·of
 
@@ -12,5 +12,5 @@ measured (refused n) = refused n
 measured (given rest p) = given (length rest) (length p)
 
 unfoldable pub framesResult : Frames → Answer ℕ ℕ
-framesResult (Frames·of.Refused r) = refused (number r)
+framesResult (Frames·of.Refused r) = refused (refusalNumber r)
 framesResult (Frames·of.Whole rest n) = given rest n

@@ -4,10 +4,10 @@ ghost use mathlib.Core.Path.{_≡_};
 ghost use lib.ListN.{length, take, drop};
 ghost use Rattle.message_rules.specs.Answer.{verdictResult};
 ghost use Rattle.can_rules.specs.Can.{frameSize, typeLegal, firstFits, firstChecks, laterFits, laterChecks, zeros, sameBytes};
-use can_rules::DATA;
+use can_rules::DATA_SIZE;
 use can_rules::FIRST_SERIES;
 use can_rules::MOST_LATER;
-use can_rules::PART;
+use can_rules::PART_SIZE;
 use message_rules::Refusal;
 use message_rules::Verdict;
 
@@ -21,15 +21,15 @@ fn first_fits(t: u8, dlc: u8, count: u8) -> bool
     ensures { λ r. ⌜ r ≡ firstFits t dlc count ⌝ }
 {
     if t == 1 {
-        return dlc as usize <= DATA;
+        return dlc as usize <= DATA_SIZE;
     }
     if t == 5 {
-        return dlc as usize <= DATA;
+        return dlc as usize <= DATA_SIZE;
     }
     if t < FIRST_SERIES {
         return dlc == 0;
     }
-    if dlc as usize != DATA {
+    if dlc as usize != DATA_SIZE {
         return false;
     }
     1 <= count && count <= MOST_LATER
@@ -40,9 +40,9 @@ fn later_fits(left: usize, dlc: u8) -> bool
     ensures { λ r. ⌜ r ≡ laterFits left dlc ⌝ }
 {
     if left == 0 {
-        return 1 <= dlc && dlc as usize <= PART;
+        return 1 <= dlc && dlc as usize <= PART_SIZE;
     }
-    dlc as usize == DATA
+    dlc as usize == DATA_SIZE
 }
 
 // Whether all bytes from a place on are 0.

@@ -9,8 +9,8 @@ use crate::Frames;
 use crate::check::first_checks;
 use crate::check::later_checks;
 use can_rules::FIRST_SERIES;
-use can_rules::FRAME;
-use can_rules::PART;
+use can_rules::FRAME_SIZE;
+use can_rules::PART_SIZE;
 use message_rules::Refusal;
 use message_rules::Verdict;
 
@@ -18,10 +18,10 @@ use message_rules::Verdict;
 pub fn scan(bytes: &[u8]) -> Frames
     ensures { λ r. ⌜ framesResult r ≡ measured (allFrames (now (bytes .entry))) ⌝ }
 {
-    if bytes.len() < FRAME {
+    if bytes.len() < FRAME_SIZE {
         return Frames::Refused(Refusal::Truncated);
     }
-    match first_checks(&bytes[..FRAME]) {
+    match first_checks(&bytes[..FRAME_SIZE]) {
         Verdict::Refused(refusal) => Frames::Refused(refusal),
         Verdict::Passed => scan_rest(bytes),
     }
@@ -33,7 +33,7 @@ fn scan_rest(bytes: &[u8]) -> Frames
     ensures { λ r. ⌜ framesResult r ≡ measured (allFrames (now (bytes .entry))) ⌝ }
 {
     if bytes[3] < FIRST_SERIES {
-        let rest = bytes.len() - FRAME;
+        let rest = bytes.len() - FRAME_SIZE;
         let size = bytes[4] as usize;
         return Frames::Whole(rest, size);
     }
@@ -46,18 +46,18 @@ fn scan_series(bytes: &[u8]) -> Frames
     ensures { λ r. ⌜ framesResult r ≡ measured (allFrames (now (bytes .entry))) ⌝ }
 {
     let mut left = bytes[12] as usize;
-    let mut at = FRAME;
-    let mut size = PART;
+    let mut at = FRAME_SIZE;
+    let mut size = PART_SIZE;
     while 0 < left {
         left -= 1;
-        if bytes.len() - at < FRAME {
+        if bytes.len() - at < FRAME_SIZE {
             return Frames::Refused(Refusal::Truncated);
         }
-        match later_checks(bytes, left, &bytes[at..at + FRAME]) {
+        match later_checks(bytes, left, &bytes[at..at + FRAME_SIZE]) {
             Verdict::Refused(refusal) => return Frames::Refused(refusal),
             Verdict::Passed => {
                 size += bytes[at + 4] as usize - 1;
-                at += FRAME;
+                at += FRAME_SIZE;
             }
         }
     }

@@ -11,15 +11,15 @@ use Rattle.message_rules.specs.declared.WriteAnswer.the-variants.{Refused, Leng
 use Rattle.message_rules.proofs.Answers.{too-short, long-enough}
 use Rattle.message_rules.proofs.Parts.{part-from}
 use Rattle.message_rules.proofs.Stores.{sets-append, sets-start}
-use Rattle.can_rules.specs.Can.{frame, series}
+use Rattle.can_rules.specs.Can.{canFrame, series}
 use Rattle.can_rules.proofs.Lengths.{frame-length}
 
 module _ (i : List ℕ) (four : length i ≡ 4) where
   -- The head, the data and the zeros, each stored after the last, are the frame.
   pub frame-stored : (d out head filled left : List ℕ) (at : ℕ)
       → head ≡ sets out at (i ++ (length d ∷ [])) → filled ≡ sets head (at + 5) d → left ≡ sets filled (at + 5 + length d) (replicate (8 - length d) 0)
-      → left ≡ sets out at (frame i d)
-  unfolding frame
+      → left ≡ sets out at (canFrame i d)
+  unfolding canFrame
   frame-stored d out head filled left at e f g =
       let z : List ℕ = replicate (8 - length d) 0 in
       let five : length (i ++ (length d ∷ [])) ≡ 5 = rw length-append (omega arith) in
@@ -31,7 +31,7 @@ module _ (i : List ℕ) (four : length i ≡ 4) where
   pub counted-stored : (d out head copied left : List ℕ) (n at : ℕ)
       → head ≡ sets out at (i ++ ((length d + 1) ∷ [])) → copied ≡ sets head (at + 5) d
       → left ≡ sets (set copied (at + 4 + (length d + 1)) n) (at + 5 + (length d + 1)) (replicate (8 - (length d + 1)) 0)
-      → left ≡ sets out at (frame i (d ++ (n ∷ [])))
+      → left ≡ sets out at (canFrame i (d ++ (n ∷ [])))
   counted-stored d out head copied left n at e f g =
       let size : length (d ++ (n ∷ [])) ≡ length d + 1 = length-append d (n ∷ []) in
       let place : at + 4 + (length d + 1) ≡ at + 5 + length d = omega arith in
@@ -39,11 +39,11 @@ module _ (i : List ℕ) (four : length i ≡ 4) where
       frame-stored (d ++ (n ∷ [])) out head (set copied (at + 4 + (length d + 1)) n) left at (rw size e) filled (rw size g)
 
   -- A series goes on after its first frame.
-  series-more : (p out next : List ℕ) (at n : ℕ) → 0 < n → 7 ≤ length p → next ≡ sets out at (frame i (take 7 p ++ (n ∷ []))) → sets next (at + 13) (series i (n - 1) (drop 7 p)) ≡ sets out at (series i n p)
+  series-more : (p out next : List ℕ) (at n : ℕ) → 0 < n → 7 ≤ length p → next ≡ sets out at (canFrame i (take 7 p ++ (n ∷ []))) → sets next (at + 13) (series i (n - 1) (drop 7 p)) ≡ sets out at (series i n p)
   unfolding series
   series-more p out next at zero h l e = absurd (omega arith)
   series-more p out next at (suc n) h l e =
-      let f = frame i (take 7 p ++ (suc n ∷ [])) in
+      let f = canFrame i (take 7 p ++ (suc n ∷ [])) in
       let size = frame-length i four (take 7 p ++ (suc n ∷ [])) (rw (length-append, length-take-le 7 p l) (omega arith)) in
       let joined : sets (sets out at f) (at + length f) (series i n (drop 7 p)) ≡ sets out at (f ++ series i n (drop 7 p)) = sets-append out at f (series i n (drop 7 p)) in
       let back : suc n - 1 ≡ n = omega arith in
@@ -59,7 +59,7 @@ pub record Going (i out₀ p : List ℕ) (later : ℕ) (out : List ℕ) (left do
   pub whole : sets out at (series i left (drop done p)) ≡ sets out₀ 0 (series i later p)
 
 module _ (i : List ℕ) (four : length i ≡ 4) (out₀ p out next : List ℕ) (later left done at : ℕ) (going : Going i out₀ p later out left done at) where
-  pub series-turn : 0 < left → length next ≡ length out → next ≡ sets out at (frame i (take (done + 7 - done) (drop done p) ++ (left ∷ []))) → Going i out₀ p later next (left - 1) (done + 7) (at + 13)
+  pub series-turn : 0 < left → length next ≡ length out → next ≡ sets out at (canFrame i (take (done + 7 - done) (drop done p) ++ (left ∷ []))) → Going i out₀ p later next (left - 1) (done + 7) (at + 13)
   series-turn h k e =
       let seven : done + 7 - done ≡ 7 = omega arith in
       let enough : 7 ≤ length (drop done p) = rw length-drop (omega arith) in
@@ -71,7 +71,7 @@ module _ (i : List ℕ) (four : length i ≡ 4) (out₀ p out next : List ℕ) (
         whole = (rw drop-drop at (series-more i four (drop done p) out next at left h enough (rw seven at e))) ∙ going .whole;
       }
 
-  pub series-end : left ≡ 0 → next ≡ sets out at (frame i (take (length p - done) (drop done p) ++ (0 ∷ []))) → next ≡ sets out₀ 0 (series i later p)
+  pub series-end : left ≡ 0 → next ≡ sets out at (canFrame i (take (length p - done) (drop done p) ++ (0 ∷ []))) → next ≡ sets out₀ 0 (series i later p)
   unfolding series
   series-end z e = (rw part-from at e) ∙ (rw z at (going .whole))
 

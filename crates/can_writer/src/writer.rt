@@ -8,10 +8,10 @@ ghost use lib.ListN.{length, replicate};
 ghost use lib.Seq.{sets};
 ghost use Rattle.message_rules.specs.Answer.{writeResult, within, counted, outputAfter, written};
 ghost use Rattle.message_rules.specs.Kinds.{isEvent};
-ghost use Rattle.can_rules.specs.Can.{frameSize, dataSize, partSize, seriesType, identifier, frame, inSeries, series, framesAfter, singleBytes, seriesBytes, canBytes, canWrite};
-use can_rules::DATA;
-use can_rules::FRAME;
-use can_rules::PART;
+ghost use Rattle.can_rules.specs.Can.{frameSize, dataSize, partSize, seriesType, identifier, canFrame, inSeries, series, framesAfter, singleBytes, seriesBytes, canBytes, canWrite};
+use can_rules::DATA_SIZE;
+use can_rules::FRAME_SIZE;
+use can_rules::PART_SIZE;
 use message_rules::Carries;
 use message_rules::Kind;
 use message_rules::Message;
@@ -51,14 +51,13 @@ fn write_checked(message: Message, payload: &[u8], out: &mut [u8]) -> WriteAnswe
 fn in_series(kind: Kind, size: usize) -> bool
     ensures { λ r. ⌜ r ≡ inSeries kind size ⌝ }
 {
-    message_fields::is_event(kind) || DATA < size
+    message_kinds::is_event(kind) || DATA_SIZE < size
 }
 
-// The type of a kind in a series: a long tc is 7 and a long tlmrsp 8, and an event has its own.
-fn series_type(kind: Kind) -> u8
-    ensures { λ r. ⌜ r ≡ seriesType kind ⌝ }
+// The type in a series for the one in a single frame: a long tc is 7 and a long tlmrsp 8, and an event has its own.
+fn series_type(number: u8) -> u8
+    ensures { λ r. ⌜ r ≡ seriesType number ⌝ }
 {
-    let number = message_fields::type_number(kind);
     match number {
         1 => 7,
         5 => 8,
@@ -71,13 +70,13 @@ fn write_single(message: Message, payload: &[u8], out: &mut [u8]) -> WriteAnswer
     ensures { λ r. ⌜ writeResult r ≡ counted (within (now (out .entry)) (written (singleBytes message (now (payload .entry))))) ⌝ }
     ensures { λ _. ⌜ now (out .exit) ≡ outputAfter (within (now (out .entry)) (written (singleBytes message (now (payload .entry))))) (now (out .entry)) ⌝ }
 {
-    if out.len() < FRAME {
+    if out.len() < FRAME_SIZE {
         return WriteAnswer::Refused(Refusal::OutputTooShort);
     }
     let kind = message.kind;
-    let number = message_fields::type_number(kind);
+    let number = message_kinds::type_number(kind);
     put_single(message, number, payload, out);
-    WriteAnswer::Length(FRAME)
+    WriteAnswer::Length(FRAME_SIZE)
 }
 
 // Every frame of a series but the last has seven bytes of the payload.
@@ -86,13 +85,13 @@ fn write_series(message: Message, payload: &[u8], out: &mut [u8]) -> WriteAnswer
     ensures { λ r. ⌜ writeResult r ≡ counted (within (now (out .entry)) (written (seriesBytes message (now (payload .entry))))) ⌝ }
     ensures { λ _. ⌜ now (out .exit) ≡ outputAfter (within (now (out .entry)) (written (seriesBytes message (now (payload .entry))))) (now (out .entry)) ⌝ }
 {
-    let later = payload.len() / PART;
-    let size = FRAME * (later + 1);
+    let later = payload.len() / PART_SIZE;
+    let size = FRAME_SIZE * (later + 1);
     if out.len() < size {
         return WriteAnswer::Refused(Refusal::OutputTooShort);
     }
     let kind = message.kind;
-    let number = series_type(kind);
+    let number = series_type(message_kinds::type_number(kind));
     put_series(message, number, payload, later, out);
     WriteAnswer::Length(size)
 }
@@ -106,11 +105,11 @@ fn put_series(message: Message, number: u8, payload: &[u8], later: usize, out: &
     let mut done = 0;
     let mut at = 0;
     while 0 < left {
-        let next = done + PART;
+        let next = done + PART_SIZE;
         put_counted(message, number, &payload[done..next], left as u8, out, at);
         left -= 1;
         done = next;
-        at += FRAME;
+        at += FRAME_SIZE;
     }
     put_counted(message, number, &payload[done..], 0, out, at);
 }
@@ -118,24 +117,24 @@ fn put_series(message: Message, number: u8, payload: &[u8], later: usize, out: &
 // Puts a frame of a series: the data, and after it the count of frames still to come.
 fn put_counted(message: Message, number: u8, data: &[u8], count: u8, out: &mut [u8], at: usize)
     requires { ⌜ (length (now «data») ≤ partSize) × (at + frameSize ≤ length (now out)) ⌝ }
-    ensures { λ _. ⌜ now (out .exit) ≡ sets (now (out .entry)) at (frame (identifier number message) (now («data» .entry) ++ (count ∷ []))) ⌝ }
+    ensures { λ _. ⌜ now (out .exit) ≡ sets (now (out .entry)) at (canFrame (identifier number message) (now («data» .entry) ++ (count ∷ []))) ⌝ }
 {
     let used = data.len() + 1;
     put_head(message, number, used as u8, out, at);
     message_output::put(data, &mut out[at + 5..]);
     out[at + 4 + used] = count;
-    put_zeros(out, at + 5 + used, DATA - used);
+    put_zeros(out, at + 5 + used, DATA_SIZE - used);
 }
 
 // Puts a frame that stands alone over the start of out.
 fn put_single(message: Message, number: u8, payload: &[u8], out: &mut [u8])
     requires { ⌜ (length (now payload) ≤ dataSize) × (frameSize ≤ length (now out)) ⌝ }
-    ensures { λ _. ⌜ now (out .exit) ≡ sets (now (out .entry)) 0 (frame (identifier number message) (now (payload .entry))) ⌝ }
+    ensures { λ _. ⌜ now (out .exit) ≡ sets (now (out .entry)) 0 (canFrame (identifier number message) (now (payload .entry))) ⌝ }
 {
     let used = payload.len();
     put_head(message, number, used as u8, out, 0);
     message_output::put(payload, &mut out[5..]);
-    put_zeros(out, 5 + used, DATA - used);
+    put_zeros(out, 5 + used, DATA_SIZE - used);
 }
 
 // Puts the identifier and the DLC.
@@ -155,7 +154,7 @@ fn written_id(message: Message) -> u8
     ensures { λ r. ⌜ r ≡ cond (isEvent (message .kind)) 255 (message .id) ⌝ }
 {
     let kind = message.kind;
-    if message_fields::is_event(kind) {
+    if message_kinds::is_event(kind) {
         255
     } else {
         message.id

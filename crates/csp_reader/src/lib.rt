@@ -24,7 +24,7 @@ pub fn read(bytes: &[u8], out: &mut [u8]) -> ReadAnswer
         return ReadAnswer::Refused(Refusal::Truncated);
     }
     let id = bytes[1];
-    match message_fields::type_kind(bytes[0]) {
+    match message_kinds::type_kind(bytes[0]) {
         KindLookup::Unknown => ReadAnswer::Refused(Refusal::UnknownStart),
         KindLookup::Known(kind) => read_data(kind, id, &bytes[2..], out),
     }
@@ -49,7 +49,7 @@ fn read_data(kind: Kind, id: u8, data: &[u8], out: &mut [u8]) -> ReadAnswer
     match message_checks::check_data(message, data.len()) {
         Verdict::Refused(refusal) => ReadAnswer::Refused(refusal),
         Verdict::Passed => {
-            let payload = message_fields::error_length(kind);
+            let payload = message_kinds::error_length(kind);
             read_payload(message, &data[payload..], out)
         }
     }

@@ -6,7 +6,7 @@ use native.Mathlib.Nat.{zero-add}
 use native.Mathlib.Omega.{arith}
 use lib.ListN.{length, take, drop, length-append, length-take, length-drop, take-append-drop}
 use lib.Seq.{sets, sets-eq, drop-at, drop-drop, length-take-le}
-use Rattle.message_rules.specs.Answer.{refused, given, number, writeResult, within, counted, outputAfter, written}
+use Rattle.message_rules.specs.Answer.{refused, given, refusalNumber, writeResult, within, counted, outputAfter, written}
 use Rattle.message_rules.specs.Data.{errorBytes}
 use Rattle.message_rules.specs.Kinds.{errorLength}
 use Rattle.message_rules.specs.declared.Message.{Message}
@@ -34,7 +34,7 @@ module _ (h p out part : List ℕ) (n : ℕ) (w : WriteAnswer)
     (size : n ≡ length h) (room : n ≤ length out)
     (result : writeResult w ≡ counted (within (drop n out) (written p))) (left : part ≡ outputAfter (within (drop n out) (written p)) (drop n out)) where
   pub payload-refused : (r : Refusal) → w ≡ Refused r
-      → (refused (number r) ≡ counted (within out (written (h ++ p)))) × (take n out ++ part ≡ outputAfter (within out (written (h ++ p))) out)
+      → (refused (refusalNumber r) ≡ counted (within out (written (h ++ p)))) × (take n out ++ part ≡ outputAfter (within out (written (h ++ p))) out)
   unfolding counted outputAfter
   payload-refused r e =
       let s = put-refused p (drop n out) part w result left r e in

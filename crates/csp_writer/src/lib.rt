@@ -36,7 +36,7 @@ fn write_checked(message: Message, payload: &[u8], out: &mut [u8]) -> WriteAnswe
     ensures { λ _. ⌜ now (out .exit) ≡ outputAfter (within (now (out .entry)) (written (cspHead message ++ now (payload .entry)))) (now (out .entry)) ⌝ }
 {
     let kind = message.kind;
-    let head = 2 + message_fields::error_length(kind);
+    let head = 2 + message_kinds::error_length(kind);
     if out.len() < head {
         return WriteAnswer::Refused(Refusal::OutputTooShort);
     }
@@ -55,9 +55,9 @@ fn put_head(message: Message, out: &mut [u8])
     ensures { λ _. ⌜ now (out .exit) ≡ sets (now (out .entry)) 0 (cspHead message) ⌝ }
 {
     let kind = message.kind;
-    out[0] = message_fields::type_number(kind);
+    out[0] = message_kinds::type_number(kind);
     out[1] = message.id;
-    let tells = message_fields::error_length(kind);
+    let tells = message_kinds::error_length(kind);
     if tells == 0 {
         return;
     }

@@ -5,7 +5,7 @@ use mathlib.Core.List.{List, []}
 use mathlib.Core.Path.{_≡_, refl}
 use native.Mathlib.Omega.{arith}
 use lib.ListN.{length}
-use Rattle.message_rules.specs.Answer.{Answer, refused, given, number, within, counted, outputAfter, writeResult, about}
+use Rattle.message_rules.specs.Answer.{Answer, refused, given, refusalNumber, within, counted, outputAfter, writeResult, about}
 use Rattle.message_rules.specs.declared.Kind.{Kind}
 use Rattle.message_rules.specs.declared.Message.{Message}
 use Rattle.message_rules.specs.declared.Refusal.{Refusal}
@@ -47,10 +47,10 @@ unfolding receive messageReply
 message-reply d store b m p t e q = rw (e, q)
 
 -- A command by its fault, with the unit and the answer that it comes to.
-pub command-reply : (d : Device) (m : Message) (p : List ℕ) (f f′ : Fault) (next : Device) (answer : Message) → f′ ≡ f → next ≡ afterCommand d (m .id) p f
+pub telecommand-reply : (d : Device) (m : Message) (p : List ℕ) (f f′ : Fault) (next : Device) (answer : Message) → f′ ≡ f → next ≡ afterCommand d (m .id) p f
     → answer ≡ commandAnswer d m f′ → commandReply d m p f ≡ about (answers next) (linkWrite (d .link) answer [])
 unfolding commandReply
-command-reply d m p f f′ next answer e done same = rw (done, same, e)
+telecommand-reply d m p f f′ next answer e done same = rw (done, same, e)
 
 -- What a writer answered, told with the unit.
 module _ (d next : Device) (out out′ : List ℕ) where
@@ -60,11 +60,11 @@ module _ (d next : Device) (out out′ : List ℕ) where
   answer-told n (refused k) says left = absurd (let z : _≡_ {A = ℕ} 0 1 = cc in omega arith)
   answer-told n (given u b) says left = let same : n ≡ length b = cc in (rw same, (refl, left))
 
-  refusal-told : (n : ℕ) (y : Answer Unit (List ℕ)) → refused n ≡ counted y → out′ ≡ outputAfter y out
+  refusal-counted : (n : ℕ) (y : Answer Unit (List ℕ)) → refused n ≡ counted y → out′ ≡ outputAfter y out
       → (refused n ≡ counted (about (answers next) y)) × ((d ≡ afterReceive d (about (answers next) y)) × (out′ ≡ outputAfter (about (answers next) y) out))
   unfolding counted outputAfter about afterReceive
-  refusal-told n (refused k) says left = let same : n ≡ k = cc in (rw same, (refl, left))
-  refusal-told n (given u b) says left = absurd (let z : _≡_ {A = ℕ} 0 1 = cc in omega arith)
+  refusal-counted n (refused k) says left = let same : n ≡ k = cc in (rw same, (refl, left))
+  refusal-counted n (given u b) says left = absurd (let z : _≡_ {A = ℕ} 0 1 = cc in omega arith)
 
   module _ (x : Answer Unit (List ℕ)) (left : out′ ≡ outputAfter (within out x) out) where
     pub answer-gives : (n : ℕ) → writeResult (WriteAnswer·of.Length n) ≡ counted (within out x) → Gives d out (about (answers next) x) (record { device = next; outcome = Outcome·of.Answer n }) out′
@@ -73,4 +73,4 @@ module _ (d next : Device) (out out′ : List ℕ) where
 
     pub refusal-gives : (r : Refusal) → writeResult (WriteAnswer·of.Refused r) ≡ counted (within out x) → Gives d out (about (answers next) x) (record { device = d; outcome = Outcome·of.Refused r }) out′
     unfolding receiveResult writeResult
-    refusal-gives r says = rw (within-about (answers next) out x) (refusal-told (number r) (within out x) says left)
+    refusal-gives r says = rw (within-about (answers next) out x) (refusal-counted (refusalNumber r) (within out x) says left)

@@ -65,7 +65,7 @@ fn reply(device: Device, store: usize, message: Message, payload: &[u8], out: &m
 {
     let kind = message.kind;
     match kind {
-        Kind::Telecommand => command_reply(device, store, message, payload, out),
+        Kind::Telecommand => telecommand_reply(device, store, message, payload, out),
         Kind::TelecommandAck => silence(device),
         Kind::TelecommandNack => silence(device),
         Kind::TelemetryRequest => telemetry_reply(device, message, out),
@@ -75,7 +75,7 @@ fn reply(device: Device, store: usize, message: Message, payload: &[u8], out: &m
     }
 }
 
-fn command_reply(
+fn telecommand_reply(
     device: Device,
     store: usize,
     message: Message,
@@ -169,7 +169,7 @@ fn info_bytes(transfer: Transfer) -> [u8; 7]
     ensures { λ r. ⌜ r ≡ infoBytes transfer ⌝ }
 {
     let buffer = transfer.buffer;
-    let length = device_state::frame_length(transfer);
+    let length = device_state::buffered_length(transfer);
     let number = little_endian::u16_to_bytes(transfer.number);
     let size = little_endian::u16_to_bytes(length as u16);
     let sum = little_endian::u16_to_bytes(file_checksum::checksum(&buffer[..length]));

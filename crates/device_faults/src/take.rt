@@ -45,7 +45,7 @@ fn number_fault(transfer: Transfer, number: u16) -> Fault
 fn buffer_fault(transfer: Transfer) -> Fault
     ensures { λ r. ⌜ r ≡ bufferFault transfer ⌝ }
 {
-    let length = device_state::frame_length(transfer);
+    let length = device_state::buffered_length(transfer);
     if length == 0 {
         return Fault::Nack(7, 0);
     }

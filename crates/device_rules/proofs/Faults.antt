@@ -10,12 +10,19 @@ use lib.ListN.{length, take}
 use Rattle.little_endian_rules.specs.LittleEndian.{toBytes}
 use Rattle.little_endian_rules.proofs.Laws.{to-length, from-to}
 use Rattle.file_rules.specs.File.{frameCount}
-use Rattle.device_rules.specs.Device.{isIdle, frame, withTransfer}
+use Rattle.device_rules.specs.Device.{isIdle, bufferedFrame, withTransfer}
 use Rattle.device_rules.specs.declared.Device.{Device}
 use Rattle.device_rules.specs.declared.Transfer.{Transfer}
 use Rattle.device_rules.specs.declared.Phase.the-variants as Phase·of
 use Rattle.device_rules.specs.Faults.{fault, bufferFault, numberFault, takeFault, frameFault, commandFault}
+use Rattle.device_rules.specs.declared.Fault.{Fault}
 use Rattle.device_rules.specs.declared.Fault.the-variants.{None, Nack}
+
+-- A command without a fault passed every test.
+pub fault-none : (e : ℕ) (t : Bool) (rest : Fault) → fault e t rest ≡ None → (t ≡ false) × (rest ≡ None)
+unfolding fault
+fault-none e true rest h = absurd (let z : _≡_ {A = ℕ} 0 1 = cc in omega arith)
+fault-none e false rest h = (refl, h)
 
 -- A transfer that has stored i frames of a file of this size; its buffer, the count of it and whether it is pending are given apart.
 abbrev pub transferAt : (size i : ℕ) → List ℕ → ℕ → Bool → Transfer
@@ -44,7 +51,7 @@ module _ (d : Device) (n i store : ℕ) (buffer : List ℕ) (buffered : ℕ) whe
   -- Take frame i is carried out where frame i is in the buffer,
   pub take-taken : i < frameCount n → i < 65535 → 1 ≤ length (take buffered buffer) → length (take buffered buffer) ≤ n - min (256 * i) n
       → commandFault (withTransfer d (transferAt n i buffer buffered false)) store 21 (toBytes 2 i) ≡ None
-  unfolding commandFault takeFault numberFault bufferFault fault frame
+  unfolding commandFault takeFault numberFault bufferFault fault bufferedFrame
   take-taken h small some fits =
       let next : ((i + 65535) % 65536 + 1) % 65536 ≡ i = omega arith in
       simp (

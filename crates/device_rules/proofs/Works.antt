@@ -16,18 +16,18 @@ use Rattle.message_rules.specs.declared.Verdict.{Verdict}
 use Rattle.message_rules.specs.declared.Verdict.the-variants.{Passed, Refused}
 use Rattle.message_rules.proofs.Answers.{long-enough}
 use Rattle.message_rules.proofs.Checks.{both-true}
-use Rattle.device_rules.specs.Device.{frame, withTransfer, unitResult}
+use Rattle.device_rules.specs.Device.{bufferedFrame, withTransfer, unitResult}
 use Rattle.device_rules.specs.Work.{frameStored, hasRoom, work, withoutBytes, afterWork, storeAfter}
 use Rattle.device_rules.specs.declared.Device.{Device}
 
 -- "The work step stores a pending frame after what is stored": the store then holds one frame more and is else as it was, and the unit waits
 -- for the next.
 pub record Stored (d d′ : Device) (s s′ : List ℕ) : Type 0 where
-  pub count : d′ .transfer .stored ≡ d .transfer .stored + length (frame (d .transfer))
-  pub holds : take (d′ .transfer .stored) s′ ≡ take (d .transfer .stored) s ++ frame (d .transfer)
+  pub count : d′ .transfer .stored ≡ d .transfer .stored + length (bufferedFrame (d .transfer))
+  pub holds : take (d′ .transfer .stored) s′ ≡ take (d .transfer .stored) s ++ bufferedFrame (d .transfer)
   pub rest : drop (d′ .transfer .stored) s′ ≡ drop (d′ .transfer .stored) s
   pub number : d′ .transfer .number ≡ (d .transfer .number + 1) % 65536
-  pub emptied : frame (d′ .transfer) ≡ []
+  pub emptied : bufferedFrame (d′ .transfer) ≡ []
   pub zeros : d′ .transfer .buffer ≡ replicate 256 0
   pub waits : d′ .transfer .pending ≡ false
 
@@ -37,13 +37,13 @@ seam at s f r h =
     let size : length (take at s ++ f) ≡ at + length f = rw (length-append, length-take-le at s h) in
     rw (← append-assoc (take at s) f r, ← size) (take-append-seam (take at s ++ f) r, drop-append-seam (take at s ++ f) r)
 
-pub frame-stored : (d : Device) (s : List ℕ) → let t = d .transfer in t .pending ≡ true → t .size ≤ length s → t .stored + length (frame t) ≤ t .size
+pub frame-stored : (d : Device) (s : List ℕ) → let t = d .transfer in t .pending ≡ true → t .size ≤ length s → t .stored + length (bufferedFrame t) ≤ t .size
     → Stored d (afterWork d (work d (length s))) s (storeAfter d (work d (length s)) s)
-unfolding work hasRoom frameStored frame afterWork storeAfter require after
+unfolding work hasRoom frameStored bufferedFrame afterWork storeAfter require after
 frame-stored d s pending long fits =
     let t = d .transfer in
-    let parts = seam (t .stored) s (frame t) (drop (t .stored + length (frame t)) s) (omega arith) in
-    rw (le-leb (t .size) (length s) long, le-leb (t .stored + length (frame t)) (t .size) fits, pending)
+    let parts = seam (t .stored) s (bufferedFrame t) (drop (t .stored + length (bufferedFrame t)) s) (omega arith) in
+    rw (le-leb (t .size) (length s) long, le-leb (t .stored + length (bufferedFrame t)) (t .size) fits, pending)
     (record { count = refl; holds = parts .0; rest = parts .1; number = refl; emptied = refl; zeros = refl; waits = refl })
 
 abbrev Gives : Device → List ℕ → Verdict → Device → List ℕ → Type 0
@@ -60,7 +60,7 @@ module _ (d : Device) (n : ℕ) where
   unfolding work require after
   short h k = rw (k, h)
 
-  stores : d .transfer .pending ≡ true → hasRoom (d .transfer) n ≡ true → work d n ≡ given (withTransfer d (frameStored (d .transfer))) (frame (d .transfer))
+  stores : d .transfer .pending ≡ true → hasRoom (d .transfer) n ≡ true → work d n ≡ given (withTransfer d (frameStored (d .transfer))) (bufferedFrame (d .transfer))
   unfolding work require after
   stores h k = rw (k, h)
 
@@ -73,19 +73,19 @@ module _ (d : Device) (s : List ℕ) where
   unfolding unitResult withoutBytes afterWork storeAfter
   short-gives h k = rw (short d (length s) h k) (refl, (refl, refl))
 
-  pub room : hasRoom (d .transfer) (length s) ≡ true → (d .transfer .size ≤ length s) × (d .transfer .stored + length (frame (d .transfer)) ≤ d .transfer .size)
+  pub room : hasRoom (d .transfer) (length s) ≡ true → (d .transfer .size ≤ length s) × (d .transfer .stored + length (bufferedFrame (d .transfer)) ≤ d .transfer .size)
   unfolding hasRoom
   room h =
       let t = d .transfer in
-      let b = both-true (leb (t .size) (length s)) (leb (t .stored + length (frame t)) (t .size)) h in
+      let b = both-true (leb (t .size) (length s)) (leb (t .stored + length (bufferedFrame t)) (t .size)) h in
       (leb-true _ _ (b .0), leb-true _ _ (b .1))
 
   -- A frame that goes after what is stored.
   pub stored-gives : (part : List ℕ) → d .transfer .pending ≡ true → hasRoom (d .transfer) (length s) ≡ true
-      → part ≡ outputAfter (within (drop (d .transfer .stored) s) (written (frame (d .transfer)))) (drop (d .transfer .stored) s)
+      → part ≡ outputAfter (within (drop (d .transfer .stored) s) (written (bufferedFrame (d .transfer)))) (drop (d .transfer .stored) s)
       → Gives d s Passed (withTransfer d (frameStored (d .transfer))) (take (d .transfer .stored) s ++ part)
   unfolding unitResult withoutBytes afterWork storeAfter outputAfter
   stored-gives part h k left =
       let t = d .transfer in
-      let fits : length (frame t) ≤ length (drop (t .stored) s) = rw length-drop (omega (arith, room k)) in
-      rw (stores d (length s) h k, left, long-enough (drop (t .stored) s) (tt {0}) (frame t) fits, drop-drop) (refl, (refl, refl))
+      let fits : length (bufferedFrame t) ≤ length (drop (t .stored) s) = rw length-drop (omega (arith, room k)) in
+      rw (stores d (length s) h k, left, long-enough (drop (t .stored) s) (tt {0}) (bufferedFrame t) fits, drop-drop) (refl, (refl, refl))

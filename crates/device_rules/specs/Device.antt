@@ -4,7 +4,7 @@ use mathlib.Core.Bool.{Bool, true, false, cond}
 use mathlib.Core.List.{List}
 use lib.Dec.{eqb}
 use lib.ListN.{take, replicate}
-use Rattle.message_rules.specs.Answer.{Answer, refused, given, number}
+use Rattle.message_rules.specs.Answer.{Answer, refused, given, refusalNumber}
 use Rattle.message_rules.specs.declared.Verdict.{Verdict}
 use Rattle.message_rules.specs.declared.Verdict.the-variants as Verdict·of
 use Rattle.link_rules.specs.declared.Link.{Link}
@@ -30,8 +30,8 @@ isFinished Open = false
 isFinished Finished = true
 
 -- The frame in the buffer.
-unfoldable pub frame : Transfer → List ℕ
-frame t = take (t .buffered) (t .buffer)
+unfoldable pub bufferedFrame : Transfer → List ℕ
+bufferedFrame t = take (t .buffered) (t .buffer)
 
 -- A buffer that is emptied has zeros, so that one state has one representation.
 abbrev pub emptyBuffer : List ℕ
@@ -65,4 +65,4 @@ make l own = cond (eqb own 0) (refused 7) (given (newDevice l own) tt)
 -- What the code's answer says, of making a unit and of the work step (document 01, "Forms we want to see": "this paper's number and values for each case").
 unfoldable pub unitResult : Verdict → Device → Answer Device Unit
 unitResult Verdict·of.Passed d = given d tt
-unitResult (Verdict·of.Refused r) d = refused (number r)
+unitResult (Verdict·of.Refused r) d = refused (refusalNumber r)

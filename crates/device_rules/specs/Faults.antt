@@ -6,7 +6,7 @@ use lib.Dec.{ltb, eqb}
 use lib.ListN.{length}
 use Rattle.little_endian_rules.specs.LittleEndian.{fromBytes}
 use Rattle.file_rules.specs.File.{sizeLegal}
-use Rattle.device_rules.specs.Device.{isIdle, isOpen, isFinished, frame}
+use Rattle.device_rules.specs.Device.{isIdle, isOpen, isFinished, bufferedFrame}
 use Rattle.device_rules.specs.declared.Device.{Device}
 use Rattle.device_rules.specs.declared.Transfer.{Transfer}
 use Rattle.device_rules.specs.declared.Fault.{Fault}
@@ -30,8 +30,8 @@ setupFault t store p =
 -- Take frame's tests of the buffer: "7 buffer empty; 3 buffer above what remains."
 unfoldable pub bufferFault : Transfer → Fault
 bufferFault t =
-    fault 7 (eqb (length (frame t)) 0)
-    (fault 3 (ltb (t .size - t .stored) (length (frame t)))
+    fault 7 (eqb (length (bufferedFrame t)) 0)
+    (fault 3 (ltb (t .size - t .stored) (length (bufferedFrame t)))
     None)
 
 -- Its tests of the number, "3 [..] number 0xFFFF or not the next", and then of the buffer.

@@ -14,7 +14,7 @@ use Rattle.file_rules.specs.Checksum.{checksum}
 use Rattle.link_rules.specs.Link.{linkRead, linkWrite}
 use Rattle.link_rules.specs.declared.Link.{Link}
 use Rattle.link_rules.specs.declared.Link.the-variants.{Uart, Rs485, Can, Csp}
-use Rattle.device_rules.specs.Device.{isFinished, frame}
+use Rattle.device_rules.specs.Device.{isFinished, bufferedFrame}
 use Rattle.device_rules.specs.declared.Device.{Device}
 use Rattle.device_rules.specs.declared.Transfer.{Transfer}
 use Rattle.device_rules.specs.Faults.{commandFault}
@@ -51,7 +51,7 @@ answerTo d m k e i =
 -- "Frame info answers seven bytes: number, buffered size, checksum, each 2 bytes, then flags: bit 0 set when finished."
 unfoldable pub infoBytes : Transfer → List ℕ
 infoBytes t =
-    toBytes 2 (t .number) ++ (toBytes 2 (length (frame t)) ++ (toBytes 2 (checksum (frame t)) ++ (cond (isFinished (t .phase)) 1 0 ∷ [])))
+    toBytes 2 (t .number) ++ (toBytes 2 (length (bufferedFrame t)) ++ (toBytes 2 (checksum (bufferedFrame t)) ++ (cond (isFinished (t .phase)) 1 0 ∷ [])))
 
 -- No answer: no bytes, so it is never refused.
 abbrev pub silence : Device → Answer Reply (List ℕ)

@@ -4,8 +4,8 @@ use mathlib.Core.Bool.{Bool, false, cond, _&&_}
 use mathlib.Core.List.{List, [], _++_}
 use lib.Dec.{leb, eqb}
 use lib.ListN.{length, take, drop}
-use Rattle.message_rules.specs.Answer.{Answer, refused, given, number, passed, require, after}
-use Rattle.device_rules.specs.Device.{frame, emptyBuffer, withTransfer}
+use Rattle.message_rules.specs.Answer.{Answer, refused, given, passed, require, after}
+use Rattle.device_rules.specs.Device.{bufferedFrame, emptyBuffer, withTransfer}
 use Rattle.device_rules.specs.declared.Device.{Device}
 use Rattle.device_rules.specs.declared.Transfer.{Transfer}
 use Rattle.device_rules.specs.declared.Phase.the-variants.{Finished}
@@ -15,25 +15,25 @@ use Rattle.device_rules.specs.declared.Phase.the-variants.{Finished}
 unfoldable pub frameStored : Transfer → Transfer
 frameStored t =
     record {
-      phase = cond (eqb (t .stored + length (frame t)) (t .size)) Finished (t .phase);
+      phase = cond (eqb (t .stored + length (bufferedFrame t)) (t .size)) Finished (t .phase);
       number = (t .number + 1) % 65536;
       buffer = emptyBuffer;
       buffered = 0;
       pending = false;
       size = t .size;
-      stored = t .stored + length (frame t);
+      stored = t .stored + length (bufferedFrame t);
     }
 
 -- 8: "if a frame is pending and the store is shorter than the size". No call leaves a pending frame that ends past the size; in such a state it
 -- is 8 too, so that no byte past the size is written.
 unfoldable pub hasRoom : Transfer → ℕ → Bool
-hasRoom t store = leb (t .size) store && leb (t .stored + length (frame t)) (t .size)
+hasRoom t store = leb (t .size) store && leb (t .stored + length (bufferedFrame t)) (t .size)
 
 -- "With nothing pending it does nothing." With a store of so many bytes lent.
 unfoldable pub work : Device → ℕ → Answer Device (List ℕ)
 work d store =
     cond (d .transfer .pending)
-    (after (require (hasRoom (d .transfer) store) 8 passed) (given (withTransfer d (frameStored (d .transfer))) (frame (d .transfer))))
+    (after (require (hasRoom (d .transfer) store) 8 passed) (given (withTransfer d (frameStored (d .transfer))) (bufferedFrame (d .transfer))))
     (given d [])
 
 -- "Nothing but storing changes a byte of the store": the bytes go after what was stored.

@@ -1,7 +1,7 @@
 // A unit at first, without a transfer, and the frame that a transfer's buffer holds.
 ghost use mathlib.Core.Path.{_≡_};
 ghost use lib.ListN.{length};
-ghost use Rattle.device_rules.specs.Device.{frame, noTransfer, newDevice, make, unitResult};
+ghost use Rattle.device_rules.specs.Device.{bufferedFrame, noTransfer, newDevice, make, unitResult};
 use device_rules::Device;
 use device_rules::Phase;
 use device_rules::Transfer;
@@ -11,8 +11,8 @@ use message_rules::Refusal;
 use message_rules::Verdict;
 
 // How many bytes the frame in the buffer has.
-pub fn frame_length(transfer: Transfer) -> usize
-    ensures { λ r. ⌜ r ≡ length (frame transfer) ⌝ }
+pub fn buffered_length(transfer: Transfer) -> usize
+    ensures { λ r. ⌜ r ≡ length (bufferedFrame transfer) ⌝ }
 {
     let buffered = transfer.buffered as usize;
     if 256 < buffered {

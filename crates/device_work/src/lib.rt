@@ -4,7 +4,7 @@ ghost use mathlib.Core.Bool.{cond};
 ghost use mathlib.Core.Path.{_≡_};
 ghost use lib.Dec.{eqb};
 ghost use lib.ListN.{length};
-ghost use Rattle.device_rules.specs.Device.{frame, unitResult};
+ghost use Rattle.device_rules.specs.Device.{bufferedFrame, unitResult};
 ghost use Rattle.device_rules.specs.Work.{frameStored, hasRoom, work, withoutBytes, afterWork, storeAfter};
 use device_rules::Device;
 use device_rules::Phase;
@@ -33,7 +33,7 @@ pub fn work(device: Device, store: &mut [u8]) -> UnitAnswer
         };
     }
     let at = transfer.stored as usize;
-    let length = device_state::frame_length(transfer);
+    let length = device_state::buffered_length(transfer);
     let buffer = transfer.buffer;
     // There is room, so nothing is refused here.
     message_output::put(&buffer[..length], &mut store[at..]);
@@ -54,15 +54,15 @@ fn has_room(transfer: Transfer, store: usize) -> bool
     if store < size {
         return false;
     }
-    transfer.stored as usize + device_state::frame_length(transfer) <= size
+    transfer.stored as usize + device_state::buffered_length(transfer) <= size
 }
 
 // The transfer once its pending frame is stored.
 fn frame_stored(transfer: Transfer) -> Transfer
-    requires { ⌜ transfer .stored + length (frame transfer) ≤ transfer .size ⌝ }
+    requires { ⌜ transfer .stored + length (bufferedFrame transfer) ≤ transfer .size ⌝ }
     ensures { λ r. ⌜ r ≡ frameStored transfer ⌝ }
 {
-    let stored = transfer.stored + device_state::frame_length(transfer) as u32;
+    let stored = transfer.stored + device_state::buffered_length(transfer) as u32;
     Transfer {
         phase: phase_after(transfer, stored),
         number: std::num::wrapping_add_u16(transfer.number, 1),

@@ -18,7 +18,7 @@ pub fn frame_count(size: u32) -> u32
 }
 
 // The bytes of a frame; none past the end of the file.
-pub fn frame_bytes(file: &[u8], frame: u32) -> &[u8]
+pub fn file_frame(file: &[u8], frame: u32) -> &[u8]
     ensures { λ r. ⌜ now r ≡ fileFrame (now (file .entry)) frame ⌝ }
 {
     let start = 256 * frame as usize;

@@ -6,16 +6,12 @@ use native.Mathlib.Omega.{arith}
 use native.Mathlib.Numerals.{add-one}
 use lib.ListN.{length, getD, drop}
 use lib.Seq.{drop-cons}
+use Rattle.little_endian_rules.proofs.Laws.{Bytes}
 use Rattle.file_rules.specs.Checksum.{sum, checksum}
 
 pub checksum-below : (s : List ℕ) → checksum s < 65536
 unfolding checksum
 checksum-below s = omega arith
-
--- Every number of a list is a byte.
-abbrev pub Bytes : List ℕ → Type 0
-Bytes [] = Unit
-Bytes (b ∷ s) = (b < 256) × Bytes s
 
 sum-most : (s : List ℕ) → Bytes s → sum s ≤ length s * 255
 unfolding sum

@@ -24,7 +24,7 @@ pub(crate) fn print_listing(input: i32) {
     io::write_all(STDOUT_FILENO, &text[..length]);
 }
 
-// Lays the listing over the start of an output that has room for every listing.
+// Puts the listing over the start of an output that has room for every listing.
 fn listed(bytes: &[u8], out: &mut [u8]) -> usize
     requires { ⌜ longest ≤ length (now out) ⌝ }
     ensures { λ r. ⌜ Counts r (now (out .exit)) ⌝ }

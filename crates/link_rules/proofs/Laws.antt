@@ -21,7 +21,7 @@ use Rattle.message_rules.proofs.Checks as checks
 use Rattle.can_rules.specs.Can.{canBytes, canCarries, canWrite, allFrames, complete, canRead}
 use Rattle.can_rules.proofs.Lengths.{written-most}
 use Rattle.csp_rules.specs.Csp.{cspHead, cspCarries, cspRead, cspWrite}
-use Rattle.serial_rules.specs.Frames.{rowOf, frontLength, frontFields, sourceLegal, carries, frameBytes, checkedFrame, frameRead, frameWrite}
+use Rattle.serial_rules.specs.Frames.{rowOf, frontLength, frontFields, sourceLegal, serialCarries, frameBytes, checkedFrame, frameRead, frameWrite}
 use Rattle.serial_rules.specs.declared.StartRow.{StartRow}
 use Rattle.serial_rules.specs.declared.StartRow.the-variants as StartRow·of
 use Rattle.serial_rules.specs.declared.SerialLink.{SerialLink}
@@ -75,9 +75,9 @@ uart-front StartRow·of.Event = omega arith
 serial-most : (l : SerialLink) (m : Message) (p b : List ℕ) → frameWrite l m p ≡ written b → length b ≤ 516 + frontLength l (rowOf (m .kind)) + frontLength l (rowOf (m .kind))
 unfolding frameWrite checkedFrame
 serial-most l m p b e =
-    let w = after-passed (writeChecks (carries l) m (length p)) _ tt b e in
+    let w = after-passed (writeChecks (serialCarries l) m (length p)) _ tt b e in
     let g = after-given (require (sourceLegal l (m .source)) 7 passed) tt tt (frameBytes l m p) b (w .1) in
-    rw (← g .2) (frame-most l m p (data-most (carries l) m p (w .0)))
+    rw (← g .2) (frame-most l m p (data-most (serialCarries l) m p (w .0)))
 
 -- What writing gives is never longer than the link's bound.
 pub bytes-most : (l : Link) (m : Message) (p b : List ℕ) → linkWrite l m p ≡ written b → length b ≤ mostBytes l
@@ -92,8 +92,8 @@ bytes-most Csp m p b e =
 -- What is written has a payload of at most 256 bytes.
 pub payload-most : (l : Link) (m : Message) (p b : List ℕ) → linkWrite l m p ≡ written b → length p ≤ 256
 unfolding linkWrite frameWrite canWrite cspWrite
-payload-most Uart m p b e = checks.payload-most _ m _ (after-passed (writeChecks (carries SerialLink·of.Uart) m (length p)) _ tt b e .0)
-payload-most Rs485 m p b e = checks.payload-most _ m _ (after-passed (writeChecks (carries SerialLink·of.Rs485) m (length p)) _ tt b e .0)
+payload-most Uart m p b e = checks.payload-most _ m _ (after-passed (writeChecks (serialCarries SerialLink·of.Uart) m (length p)) _ tt b e .0)
+payload-most Rs485 m p b e = checks.payload-most _ m _ (after-passed (writeChecks (serialCarries SerialLink·of.Rs485) m (length p)) _ tt b e .0)
 payload-most Can m p b e = checks.payload-most _ m _ (after-passed (writeChecks canCarries m (length p)) _ tt b e .0)
 payload-most Csp m p b e = checks.payload-most _ m _ (after-passed (writeChecks cspCarries m (length p)) _ tt b e .0)
 
@@ -105,21 +105,21 @@ SourceLegal Rs485 s = 0 < s
 SourceLegal Can s = Unit
 SourceLegal Csp s = Unit
 
-pub record Legal (l : Link) (m : Message) (p : List ℕ) : Type 0 where
+pub record LegalMessage (l : Link) (m : Message) (p : List ℕ) : Type 0 where
   pub plain : isEvent (m .kind) ≡ false
   pub tells : errorTold (m .kind) (m .error) ≡ true
   pub fields : fieldChecks m (payloadLegal (m .kind) (length p)) ≡ passed
   pub source : SourceLegal l (m .source)
 
-legal-checks : (c : Carries) (l : Link) (m : Message) (p : List ℕ) → Legal l m p → writeChecks c m (length p) ≡ passed
+legal-checks : (c : Carries) (l : Link) (m : Message) (p : List ℕ) → LegalMessage l m p → writeChecks c m (length p) ≡ passed
 unfolding writeChecks writable require
 legal-checks c l m p h = rw (h .plain, h .tells, or-true (not (c .errors)), h .fields)
 
 -- The bytes of a legal message.
-pub legal-writes : (l : Link) (m : Message) (p : List ℕ) → Legal l m p → (b : List ℕ) × (linkWrite l m p ≡ written b)
+pub legal-writes : (l : Link) (m : Message) (p : List ℕ) → LegalMessage l m p → (b : List ℕ) × (linkWrite l m p ≡ written b)
 unfolding linkWrite frameWrite checkedFrame canWrite cspWrite sourceLegal require after
-legal-writes Uart m p h = (frameBytes SerialLink·of.Uart m p, rw (legal-checks (carries SerialLink·of.Uart) Uart m p h))
-legal-writes Rs485 m p h = (frameBytes SerialLink·of.Rs485 m p, rw (legal-checks (carries SerialLink·of.Rs485) Rs485 m p h, lt-ltb _ _ (h .source)))
+legal-writes Uart m p h = (frameBytes SerialLink·of.Uart m p, rw (legal-checks (serialCarries SerialLink·of.Uart) Uart m p h))
+legal-writes Rs485 m p h = (frameBytes SerialLink·of.Rs485 m p, rw (legal-checks (serialCarries SerialLink·of.Rs485) Rs485 m p h, lt-ltb _ _ (h .source)))
 legal-writes Can m p h = (canBytes m p, rw (legal-checks canCarries Can m p h))
 legal-writes Csp m p h = (cspHead m ++ p, rw (legal-checks cspCarries Csp m p h))
 

@@ -3,7 +3,7 @@ use Prim.Native.Nat.{ℕ, _≤_}
 use mathlib.Core.List.{List}
 use mathlib.Core.Path.{_≡_, refl, sym, _∙_}
 use lib.ListN.{length, take, replicate}
-use Rattle.message_rules.specs.Answer.{Answer, refused, given, number, within, counted, outputAfter, readResult}
+use Rattle.message_rules.specs.Answer.{Answer, refused, given, refusalNumber, within, counted, outputAfter, readResult}
 use Rattle.message_rules.specs.declared.Message.{Message}
 use Rattle.message_rules.specs.declared.ReadAnswer.{ReadAnswer}
 use Rattle.message_rules.specs.declared.ReadAnswer.the-variants as ReadAnswer·of
@@ -24,9 +24,9 @@ module _ (l : Link) (b : List ℕ) where
 
   module _ (payload : List ℕ) (w : ReadAnswer)
       (says : readResult w ≡ counted (within (replicate 256 0) (linkRead l b))) (left : payload ≡ outputAfter (within (replicate 256 0) (linkRead l b)) (replicate 256 0)) where
-    pub unreadable : (r : Refusal) → w ≡ ReadAnswer·of.Refused r → linkRead l b ≡ refused (number r)
+    pub unreadable : (r : Refusal) → w ≡ ReadAnswer·of.Refused r → linkRead l b ≡ refused (refusalNumber r)
     unfolding readResult
-    unreadable r e = sym fits ∙ counted-refused _ (number r) (rw e at (sym says))
+    unreadable r e = sym fits ∙ counted-refused _ (refusalNumber r) (rw e at (sym says))
 
     pub readable : (m : Message) (n : ℕ) → w ≡ ReadAnswer·of.Message m n → (linkRead l b ≡ given m (take n payload)) × (n ≤ length payload)
     unfolding readResult

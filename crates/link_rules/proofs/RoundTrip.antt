@@ -15,7 +15,7 @@ use Rattle.link_rules.specs.Link.{linkRead, linkWrite, linkCarried, most
 use Rattle.link_rules.specs.RoundTrip.{WrittenReads, ReadWrites}
 use Rattle.link_rules.specs.declared.Link.{Link}
 use Rattle.link_rules.specs.declared.Link.the-variants.{Uart, Rs485, Can, Csp}
-use Rattle.link_rules.proofs.Laws.{Legal, within-given, bytes-most, payload-most, legal-writes}
+use Rattle.link_rules.proofs.Laws.{LegalMessage, within-given, bytes-most, payload-most, legal-writes}
 
 -- Whatever the output: bytes that were written read as every field that the link and the kind carry, and the payload.
 pub bytes-read : (l : Link) (m : Message) (p b : List ℕ) → linkWrite l m p ≡ written b → linkRead l b ≡ given (linkCarried l m) p
@@ -55,7 +55,7 @@ pub record Underway (l : Link) (m : Message) (p b : List ℕ) : Type 0 where
 abbrev pub Arrives : Link → Message → List ℕ → Type 0
 Arrives l m p = (b : List ℕ) × Underway l m p b
 
-pub legal-arrives : (l : Link) (m : Message) (p : List ℕ) → Legal l m p → Arrives l m p
+pub legal-arrives : (l : Link) (m : Message) (p : List ℕ) → LegalMessage l m p → Arrives l m p
 legal-arrives l m p h =
     let w = legal-writes l m p h in
     (w .0, record { wrote = w .1; reads = bytes-read l m p (w .0) (w .1); most = bytes-most l m p (w .0) (w .1) })

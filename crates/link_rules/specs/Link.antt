@@ -6,7 +6,7 @@ use mathlib.Core.List.{List}
 use Rattle.message_rules.specs.Answer.{Answer}
 use Rattle.message_rules.specs.Kinds.{carriedOn}
 use Rattle.message_rules.specs.declared.Message.{Message}
-use Rattle.can_rules.specs.Can.{canRead, canWrite}
+use Rattle.can_rules.specs.Can.{longestSeries, canRead, canWrite}
 use Rattle.csp_rules.specs.Csp.{cspRead, cspWrite}
 use Rattle.serial_rules.specs.Frames.{frameRead, frameWrite}
 use Rattle.serial_rules.specs.declared.SerialLink.the-variants as SerialLink·of
@@ -46,9 +46,9 @@ unfoldable pub linkCarried : Link → Message → Message
 linkCarried l m = carriedOn (carriesAddresses l) (carriesError l) m
 
 -- The most bytes that writing gives. A serial frame has head, tail and every other byte doubled (on RS485 three fields, on UART one);
--- CAN has 37 frames of 13 bytes; CSP type, ID and payload.
+-- CAN has the longest series; CSP type, ID and payload.
 abbrev pub mostBytes : Link → ℕ
 mostBytes Uart = 518
 mostBytes Rs485 = 522
-mostBytes Can = 481
+mostBytes Can = longestSeries
 mostBytes Csp = 258

@@ -23,12 +23,12 @@ use Rattle.serial_rules.specs.declared.Stop.{Stop}
 use Rattle.serial_rules.specs.Frames.{frameRead}
 use Rattle.serial_rules.specs.declared.SerialLink.the-variants.{Uart}
 use Rattle.listing_rules.specs.Lines.{kindText, fieldText, idOf, codeOf, line, spaced, lineText}
-use Rattle.listing_rules.specs.Listing.{Found, nothing, frame, hunt, frameLength, said, frameLine, framed, lines, listing, longest}
+use Rattle.listing_rules.specs.Listing.{Found, noFrame, frameAt, hunt, frameLength, said, frameLine, framed, lines, listing, longest}
 use Rattle.listing_rules.specs.declared.Field.the-variants.{Number, Dash}
 use Rattle.listing_rules.proofs.Limit.{listed-within, listed-past}
 use Rattle.listing_rules.proofs.Sizes.{line-size}
 use Rattle.listing_rules.proofs.Reading.{read-most, read-low}
-use Rattle.listing_rules.proofs.Walks.{Within, hunt-within}
+use Rattle.listing_rules.proofs.Walks.{FoundWithin, hunt-within}
 
 -- A scan passes over bytes that are there, and over the two of the tail where it finds one.
 abbrev Inside : List ℕ → Scan → Type 0
@@ -120,9 +120,9 @@ unfolding lines framed
 lines-short zero at s h = omega arith
 lines-short (suc n) at s h = by (lines-short n) (hunt at s) (hunt-within at s)
   where
-    by : ((at : ℕ) (s : List ℕ) → at + length s ≤ 65536 → length (lines n at s) ≤ 10 * length s) → (x : Found) → Within at s x → length (framed x (lines n)) ≤ 10 * length s
-    by again nothing w = omega arith
-    by again (frame start f) w =
+    by : ((at : ℕ) (s : List ℕ) → at + length s ≤ 65536 → length (lines n at s) ≤ 10 * length s) → (x : Found) → FoundWithin at s x → length (framed x (lines n)) ≤ 10 * length s
+    by again noFrame w = omega arith
+    by again (frameAt start f) w =
         let rest = drop (frameLength f) f in
         let size = length-drop (frameLength f) f in
         let fits = frame-inside f (w .2) in

@@ -20,7 +20,7 @@ use Rattle.serial_rules.specs.Stuffing.{doubled, Scan, stopped, scan, escaped, 
 use Rattle.serial_rules.specs.declared.Stop.the-variants.{Ended, Broken, Cut}
 use Rattle.serial_rules.proofs.RoundTrip.{written-reads}
 use Rattle.serial_rules.proofs.Tables.{row-of-start, written-row}
-use Rattle.serial_rules.specs.Frames.{startByte, startRow, rowOf, frontFields, sourceLegal, frameRead, carries, frameBytes, checkedFrame, frameWrite}
+use Rattle.serial_rules.specs.Frames.{startByte, startRow, rowOf, frontFields, sourceLegal, frameRead, serialCarries, frameBytes, checkedFrame, frameWrite}
 use Rattle.serial_rules.specs.declared.StartRow.{StartRow}
 use Rattle.serial_rules.specs.declared.SerialLink.the-variants.{Uart}
 use Rattle.serial_rules.specs.declared.RowLookup.the-variants.{Known, Unknown}
@@ -57,10 +57,10 @@ pub written-listed : (m : Message) (p b later : List ℕ) (n at : ℕ) → frame
     → lines n at (b ++ later) ≡ lineText (line at (given (carriedOn false true m) (length p))) ++ lines n (at + length b) later
 unfolding frameWrite checkedFrame frameBytes writeChecks counted
 written-listed m p b later n at e h =
-    let w = after-passed (writeChecks (carries Uart) m (length p)) _ tt b e in
+    let w = after-passed (writeChecks (serialCarries Uart) m (length p)) _ tt b e in
     let v = after-given (require (sourceLegal Uart (m .source)) 7 passed) tt tt (frameBytes Uart m p) b (w .1) in
     let r = rowOf (m .kind) in
-    let has = written-row Uart m (require-passed (writable (carries Uart) m) 9 _ (w .0) .0) .0 in
+    let has = written-row Uart m (require-passed (writable (serialCarries Uart) m) 9 _ (w .0) .0) .0 in
     let read : counted (frameRead Uart b) ≡ given (carriedOn false true m) (length p) = rw (written-reads Uart m p b e) in
     let body = frontFields Uart r m ++ dataBytes m p in
     rw (← read, ← v .2) (complete-listed (startByte Uart r) r (row-of-start Uart r has) body later n at (rw (← v .2) at h))

@@ -23,7 +23,7 @@ use Rattle.serial_rules.specs.Stuffing.{scan}
 use Rattle.serial_rules.specs.declared.Stop.the-variants.{Ended, Broken, Cut}
 use Rattle.serial_rules.specs.declared.Stop.{Stop}
 use Rattle.serial_rules.proofs.RoundTrip.{read-writes}
-use Rattle.serial_rules.specs.Frames.{startRow, kindOf, idField, sourceLegal, sourceChecked, kindRead, identified, frameBody, closed, rowRead, started, carries, frameRead, frameWrite}
+use Rattle.serial_rules.specs.Frames.{startRow, kindOf, idField, sourceLegal, sourceChecked, kindRead, identified, frameBody, closed, rowRead, started, serialCarries, frameRead, frameWrite}
 use Rattle.message_rules.specs.declared.KindLookup.the-variants as KindLookup·of
 use Rattle.message_rules.specs.declared.KindLookup.{KindLookup}
 use Rattle.serial_rules.specs.declared.StartRow.{StartRow}
@@ -32,9 +32,9 @@ use Rattle.serial_rules.specs.declared.RowLookup.the-variants as RowLookup·of
 use Rattle.serial_rules.specs.declared.RowLookup.{RowLookup}
 
 module _ (b : List ℕ) where
-  pub read-checked : (m : Message) (p : List ℕ) → frameRead Uart b ≡ given m p → writeChecks (carries Uart) m (length p) ≡ passed
+  pub read-checked : (m : Message) (p : List ℕ) → frameRead Uart b ≡ given m p → writeChecks (serialCarries Uart) m (length p) ≡ passed
   unfolding frameWrite
-  read-checked m p e = after-passed (writeChecks (carries Uart) m (length p)) _ tt b (read-writes Uart b m p e) .0
+  read-checked m p e = after-passed (writeChecks (serialCarries Uart) m (length p)) _ tt b (read-writes Uart b m p e) .0
 
   -- 256 bytes have room for every payload: 8 can't occur.
   pub read-room : (out : List ℕ) → 256 ≤ length out → within out (frameRead Uart b) ≡ frameRead Uart b
@@ -44,22 +44,22 @@ module _ (b : List ℕ) where
       by : (x : Answer Message (List ℕ)) → frameRead Uart b ≡ x → within out (frameRead Uart b) ≡ frameRead Uart b
       by (refused n) e = rw e
       by (given m p) e =
-          let most = payload-most (carries Uart) m (length p) (read-checked m p e) in
+          let most = payload-most (serialCarries Uart) m (length p) (read-checked m p e) in
           rw e (long-enough out m p (omega arith))
 
-  pub told-most : (m : Message) (n : ℕ) → given m n ≡ counted (frameRead Uart b) → n ≤ 256
+  pub counted-most : (m : Message) (n : ℕ) → given m n ≡ counted (frameRead Uart b) → n ≤ 256
   unfolding counted
-  told-most m n t = by (frameRead Uart b) refl
+  counted-most m n t = by (frameRead Uart b) refl
     where
       by : (x : Answer Message (List ℕ)) → frameRead Uart b ≡ x → n ≤ 256
       by (refused k) e = absurd (let z : _≡_ {A = ℕ} 0 1 = cc (rw e at t) in omega arith)
       by (given m′ p) e =
           let size : n ≡ length p = cc (rw e at t) in
-          omega (arith, payload-most (carries Uart) m′ (length p) (read-checked m′ p e))
+          omega (arith, payload-most (serialCarries Uart) m′ (length p) (read-checked m′ p e))
 
   -- What a caller of the reader learns, where it lends that much.
-  pub told-whole : (out : List ℕ) (r : ReadAnswer) → 256 ≤ length out → readResult r ≡ counted (within out (frameRead Uart b)) → readResult r ≡ counted (frameRead Uart b)
-  told-whole out r h says = rw (read-room out h) at says
+  pub counted-whole : (out : List ℕ) (r : ReadAnswer) → 256 ≤ length out → readResult r ≡ counted (within out (frameRead Uart b)) → readResult r ≡ counted (frameRead Uart b)
+  counted-whole out r h says = rw (read-room out h) at says
 
 -- A legal ID and a legal error byte are at most 255, by the kind.
 ranges : (k : Kind) → (idRange k .1 ≤ 255) × (errorRange k .1 ≤ 255)
@@ -87,8 +87,8 @@ pub read-most : (b : List ℕ) (m : Message) (p : List ℕ) → frameRead Uart b
 unfolding writeChecks
 read-most b m p e =
     let c = read-checked b m p e in
-    let f = fields-passed m (payloadLegal (m .kind) (length p)) (require-passed (writable (carries Uart) m) 9 _ c .1) in
-    (id-most (m .kind) (m .id) (f .0), error-most (m .kind) (m .error) (f .2), payload-most (carries Uart) m (length p) c)
+    let f = fields-passed m (payloadLegal (m .kind) (length p)) (require-passed (writable (serialCarries Uart) m) 9 _ c .1) in
+    (id-most (m .kind) (m .id) (f .0), error-most (m .kind) (m .error) (f .2), payload-most (serialCarries Uart) m (length p) c)
 
 -- A refusal's number has one digit: so has each check's, in their order.
 abbrev LowCheck : Check → Type 0

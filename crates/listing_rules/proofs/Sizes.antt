@@ -10,7 +10,7 @@ use Rattle.listing_rules.specs.Lines.{nameText, fieldText, spaced, lineT
 use Rattle.listing_rules.specs.declared.Line.{Line}
 
 -- The length of a line, field by field.
-pub line-size : (l : Line) → length (lineText l) ≡ length (decimal (l .at)) + length (spaced (nameText (l .name))) + length (spaced (fieldText (l .id))) + length (spaced (fieldText (l .length))) + length (spaced (fieldText (l .code))) + 1
+pub line-size : (l : Line) → length (lineText l) ≡ length (decimal (l .at)) + length (spaced (nameText (l .name))) + length (spaced (fieldText (l .id))) + length (spaced (fieldText (l .len))) + length (spaced (fieldText (l .code))) + 1
 unfolding lineText
 line-size l = simp length-append
 

@@ -21,7 +21,7 @@ use Rattle.serial_rules.specs.declared.SerialLink.the-variants.{Uart}
 use Rattle.serial_rules.specs.declared.RowLookup.the-variants.{Known, Unknown}
 use Rattle.serial_rules.specs.declared.RowLookup.{RowLookup}
 use Rattle.listing_rules.specs.Lines.{line, lineText}
-use Rattle.listing_rules.specs.Listing.{Found, nothing, frame, pair, hunt, frameLength, said, frameLine, framed, lines}
+use Rattle.listing_rules.specs.Listing.{Found, noFrame, frameAt, pair, hunt, frameLength, said, frameLine, framed, lines}
 
 -- The steps of the walk outside a frame: over a byte, over ESC with a byte that is no start byte, and the end.
 module _ (at : ℕ) where
@@ -43,22 +43,22 @@ module _ (at : ℕ) where
   lines-end (suc n) (b ∷ x ∷ s) h = absurd (omega arith)
 
 -- A frame that a hunt finds is what is left from a later offset on, and has its ESC and its start byte.
-abbrev pub Within : ℕ → List ℕ → Found → Type 0
-Within at s nothing = Unit
-Within at s (frame start f) = (at ≤ start) × (start + length f ≡ at + length s) × (2 ≤ length f)
+abbrev pub FoundWithin : ℕ → List ℕ → Found → Type 0
+FoundWithin at s noFrame = Unit
+FoundWithin at s (frameAt start f) = (at ≤ start) × (start + length f ≡ at + length s) × (2 ≤ length f)
 
-further : (at k : ℕ) (s t : List ℕ) (x : Found) → k + length t ≡ length s → Within (at + k) t x → Within at s x
-further at k s t nothing e w = tt
-further at k s t (frame start f) e w = (omega (arith, w .0), omega (arith, w .1), w .2)
+further : (at k : ℕ) (s t : List ℕ) (x : Found) → k + length t ≡ length s → FoundWithin (at + k) t x → FoundWithin at s x
+further at k s t noFrame e w = tt
+further at k s t (frameAt start f) e w = (omega (arith, w .0), omega (arith, w .1), w .2)
 
-pub hunt-within : (at : ℕ) (s : List ℕ) → Within at s (hunt at s)
+pub hunt-within : (at : ℕ) (s : List ℕ) → FoundWithin at s (hunt at s)
 unfolding hunt pair
 hunt-within at [] = tt
 hunt-within at (b ∷ []) = tt
 hunt-within at (b ∷ x ∷ s) = by (hunt-within (at + 2) s) (hunt-within (at + 1) (x ∷ s)) (eqb b 0x1F) refl (startRow Uart x) refl
   where
-    by : Within (at + 2) s (hunt (at + 2) s) → Within (at + 1) (x ∷ s) (hunt (at + 1) (x ∷ s)) → (t : Bool) → eqb b 0x1F ≡ t → (r : RowLookup) → startRow Uart x ≡ r
-        → Within at (b ∷ x ∷ s) (hunt at (b ∷ x ∷ s))
+    by : FoundWithin (at + 2) s (hunt (at + 2) s) → FoundWithin (at + 1) (x ∷ s) (hunt (at + 1) (x ∷ s)) → (t : Bool) → eqb b 0x1F ≡ t → (r : RowLookup) → startRow Uart x ≡ r
+        → FoundWithin at (b ∷ x ∷ s) (hunt at (b ∷ x ∷ s))
     by two one false q r v = rw q (further at 1 (b ∷ x ∷ s) (x ∷ s) (hunt (at + 1) (x ∷ s)) (omega arith) one)
     by two one true q Unknown v = rw (q, v) (further at 2 (b ∷ x ∷ s) s (hunt (at + 2) s) (omega arith) two)
     by two one true q (Known row) v = rw (q, v) (omega arith, refl, omega arith)
@@ -73,9 +73,9 @@ lines-enough (suc n) zero at [] h k = refl
 lines-enough (suc n) zero at (b ∷ s) h k = absurd (omega arith)
 lines-enough (suc n) (suc m) at s h k = by (lines-enough n m) (hunt at s) (hunt-within at s)
   where
-    by : ((at : ℕ) (s : List ℕ) → length s ≤ n → length s ≤ m → lines n at s ≡ lines m at s) → (x : Found) → Within at s x → framed x (lines n) ≡ framed x (lines m)
-    by again nothing w = refl
-    by again (frame start f) w =
+    by : ((at : ℕ) (s : List ℕ) → length s ≤ n → length s ≤ m → lines n at s ≡ lines m at s) → (x : Found) → FoundWithin at s x → framed x (lines n) ≡ framed x (lines m)
+    by again noFrame w = refl
+    by again (frameAt start f) w =
         let rest = drop (frameLength f) f in
         let size = length-drop (frameLength f) f in
         ap (λ (l : List ℕ). frameLine start f ++ l) (again (start + frameLength f) rest (omega (arith, w .0, w .1)) (omega (arith, w .0, w .1)))
@@ -83,7 +83,7 @@ lines-enough (suc n) (suc m) at s h k = by (lines-enough n m) (hunt at s) (hunt-
 -- The step of the walk over a frame.
 module _ (at : ℕ) where
   module _ (f : List ℕ) (x : ℕ) (s : List ℕ) (row : StartRow) (begins : f ≡ 0x1F ∷ x ∷ s) (known : startRow Uart x ≡ Known row) where
-    hunt-frame : hunt at f ≡ frame at f
+    hunt-frame : hunt at f ≡ frameAt at f
     unfolding hunt pair
     hunt-frame = rw (begins, known)
 

@@ -53,9 +53,9 @@ codeOf m = cond (leb 1 (errorLength (m .kind))) (Number (errorNumber (m .error))
 -- "Fields: offset of the ESC; kind; ID or `-`; data bytes after undoubling (`-` for refusals); error byte of acks and nacks, refusal
 -- number, else `-`." The reader tells a message and the length of its payload, or a refusal number.
 unfoldable pub line : ℕ → Answer Message ℕ → Line
-line at (refused n) = record { at = at; name = Name·of.Refused; id = Dash; length = Dash; code = Number n }
+line at (refused n) = record { at = at; name = Name·of.Refused; id = Dash; len = Dash; code = Number n }
 line at (given m n) =
-    record { at = at; name = Name·of.Kind (m .kind); id = idOf m; length = Number (errorLength (m .kind) + n); code = codeOf m }
+    record { at = at; name = Name·of.Kind (m .kind); id = idOf m; len = Number (errorLength (m .kind) + n); code = codeOf m }
 
 -- A field after another.
 unfoldable pub spaced : List ℕ → List ℕ
@@ -64,4 +64,4 @@ spaced f = text " " ++ f
 -- "Fields": the line as text, one space between two fields, and LF at the end.
 unfoldable pub lineText : Line → List ℕ
 lineText l =
-    decimal (l .at) ++ spaced (nameText (l .name)) ++ spaced (fieldText (l .id)) ++ spaced (fieldText (l .length)) ++ spaced (fieldText (l .code)) ++ text "\n"
+    decimal (l .at) ++ spaced (nameText (l .name)) ++ spaced (fieldText (l .id)) ++ spaced (fieldText (l .len)) ++ spaced (fieldText (l .code)) ++ text "\n"

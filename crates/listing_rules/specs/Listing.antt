@@ -1,4 +1,4 @@
--- The listing of a UART stream (document 01, "The listing"). What a frame is, and what it says, is the serial links' own scanner and reader.
+-- The listing of a UART stream (document 01, "The listing"). What a frame is, and what it says, are `frameScan` and `frameRead` of `serial_rules`.
 use Prim.Native.Nat.{ℕ, zero, suc, _+_}
 use mathlib.Core.Bool.{cond}
 use mathlib.Core.List.{List, [], _∷_, _++_}
@@ -17,8 +17,8 @@ use Rattle.listing_rules.specs.Lines.{text, line, lineText}
 
 -- What a hunt comes to: a frame's offset and the bytes from its ESC on, or no frame.
 pub data Found : Type 0 where
-  nothing : Found
-  frame : ℕ → List ℕ → Found
+  noFrame : Found
+  frameAt : ℕ → List ℕ → Found
 
 -- ESC with a byte after it: a frame begins there where that is a start byte; else the hunt goes on after the pair.
 unfoldable pub pair : RowLookup → Found → Found → Found
@@ -28,10 +28,10 @@ pair Unknown here later = later
 -- "Outside a frame it hunts for ESC and a start byte, passing over other bytes singly and ESC with any other byte as a pair"; "a last ESC
 -- outside a frame gives no line".
 unfoldable pub hunt : ℕ → List ℕ → Found
-hunt at [] = nothing
-hunt at (b ∷ []) = nothing
+hunt at [] = noFrame
+hunt at (b ∷ []) = noFrame
 hunt at (b ∷ x ∷ s) =
-    cond (eqb b esc) (pair (startRow Uart x) (frame at (b ∷ x ∷ s)) (hunt (at + 2) s)) (hunt (at + 1) (x ∷ s))
+    cond (eqb b esc) (pair (startRow Uart x) (frameAt at (b ∷ x ∷ s)) (hunt (at + 2) s)) (hunt (at + 1) (x ∷ s))
 
 -- How many bytes a frame has, from its ESC on: to the end of its tail, to the ESC that breaks it off, or to the input's end. An ESC that
 -- breaks it off is left to the hunt, for which it begins a new frame or is one of a pair.
@@ -51,8 +51,8 @@ frameLine at f = lineText (line at (counted (said (frameScan f .stop) f)))
 
 -- The line of a frame, and what is listed after it.
 unfoldable pub framed : Found → (ℕ → List ℕ → List ℕ) → List ℕ
-framed nothing later = []
-framed (frame at f) later = frameLine at f ++ later (at + frameLength f) (drop (frameLength f) f)
+framed noFrame later = []
+framed (frameAt at f) later = frameLine at f ++ later (at + frameLength f) (drop (frameLength f) f)
 
 -- The lines of what stands from an offset on. A frame takes two bytes or more, so `turns` only ends the recursion: as many as there are
 -- bytes are enough.

@@ -21,6 +21,6 @@ pub struct Line {
     pub at: usize,
     pub name: Name,
     pub id: Field,
-    pub length: Field,
+    pub len: Field,
     pub code: Field,
 }

@@ -3,7 +3,7 @@ ghost use Prim.Native.Nat.{_+_, _≤_};
 ghost use mathlib.Core.Path.{_≡_};
 ghost use lib.ListN.{length, take};
 ghost use lib.Seq.{sets};
-ghost use Rattle.message_rules.specs.Answer.{refused, given, counted, number};
+ghost use Rattle.message_rules.specs.Answer.{refused, given, counted, refusalNumber};
 ghost use Rattle.serial_rules.specs.Frames.{frameRead};
 ghost use Rattle.listing_rules.specs.Lines.{idOf, codeOf, line, kindText, nameText, fieldText, spaced, lineText};
 ghost use Rattle.listing_rules.specs.Listing.{longest};
@@ -21,7 +21,7 @@ use serial_rules::SerialLink;
 // A word of at most seven letters, and how many it has.
 struct Word {
     letters: [u8; 7],
-    length: usize,
+    count: usize,
 }
 
 // The line of a complete frame: what the reader says of it. A payload that passes the reader's checks has at most 256 bytes.
@@ -31,24 +31,24 @@ pub(crate) fn read_line(at: usize, frame: &[u8]) -> Line
     let mut payload = [0u8; 256];
     match serial_reader::read(SerialLink::Uart, frame, &mut payload) {
         ReadAnswer::Refused(refusal) => refused_line(at, refusal),
-        ReadAnswer::Message(message, length) => message_line(at, message, length),
+        ReadAnswer::Message(message, size) => message_line(at, message, size),
     }
 }
 
 // The line of a frame that is refused.
 pub(crate) fn refused_line(at: usize, refusal: Refusal) -> Line
-    ensures { λ r. ⌜ r ≡ line at (refused (number refusal)) ⌝ }
+    ensures { λ r. ⌜ r ≡ line at (refused (refusalNumber refusal)) ⌝ }
 {
     Line {
         at,
         name: Name::Refused,
         id: Field::Dash,
-        length: Field::Dash,
+        len: Field::Dash,
         code: Field::Number(message_fields::refusal_number(refusal) as usize),
     }
 }
 
-// The line of a frame that reads as a message with a payload of that length.
+// The line of a frame that reads as a message with a payload of this size.
 fn message_line(at: usize, message: Message, size: usize) -> Line
     requires { ⌜ size ≤ 256 ⌝ }
     ensures { λ r. ⌜ r ≡ line at (given message size) ⌝ }
@@ -60,7 +60,7 @@ fn message_line(at: usize, message: Message, size: usize) -> Line
         at,
         name: Name::Kind(kind),
         id,
-        length: Field::Number(message_fields::error_length(kind) + size),
+        len: Field::Number(message_kinds::error_length(kind) + size),
         code,
     }
 }
@@ -70,7 +70,7 @@ fn id_of(message: Message) -> Field
     ensures { λ r. ⌜ r ≡ idOf message ⌝ }
 {
     let kind = message.kind;
-    if message_fields::is_event(kind) {
+    if message_kinds::is_event(kind) {
         return Field::Dash;
     }
     Field::Number(message.id as usize)
@@ -81,7 +81,7 @@ fn code_of(message: Message) -> Field
     ensures { λ r. ⌜ r ≡ codeOf message ⌝ }
 {
     let kind = message.kind;
-    if message_fields::error_length(kind) < 1 {
+    if message_kinds::error_length(kind) < 1 {
         return Field::Dash;
     }
     let error = message.error;
@@ -96,12 +96,12 @@ pub(crate) fn put_line(line: Line, out: &mut [u8], at: usize) -> usize
 {
     let name = line.name;
     let id = line.id;
-    let length = line.length;
+    let len = line.len;
     let code = line.code;
     let to = put_decimal(line.at, out, at);
     let to = put_name(name, out, to);
     let to = put_field(id, out, to);
-    let to = put_field(length, out, to);
+    let to = put_field(len, out, to);
     let to = put_field(code, out, to);
     put_text(b"\n", out, to)
 }
@@ -115,8 +115,8 @@ fn put_name(name: Name, out: &mut [u8], at: usize) -> usize
     let to = put_text(b" ", out, at);
     let word = name_word(name);
     let letters = word.letters;
-    let length = word.length;
-    put_text(&letters[..length], out, to)
+    let count = word.count;
+    put_text(&letters[..count], out, to)
 }
 
 // Puts a field after another.
@@ -133,48 +133,48 @@ fn put_field(field: Field, out: &mut [u8], at: usize) -> usize
 }
 
 fn name_word(name: Name) -> Word
-    ensures { λ r. ⌜ (take (r .length) (r .letters) ≡ nameText name) × (r .length ≤ length (r .letters)) ⌝ }
+    ensures { λ r. ⌜ (take (r .count) (r .letters) ≡ nameText name) × (r .count ≤ length (r .letters)) ⌝ }
 {
     match name {
         Name::Kind(kind) => kind_word(kind),
         Name::Refused => Word {
             letters: *b"refused",
-            length: 7,
+            count: 7,
         },
     }
 }
 
 fn kind_word(kind: Kind) -> Word
-    ensures { λ r. ⌜ (take (r .length) (r .letters) ≡ kindText kind) × (r .length ≤ length (r .letters)) ⌝ }
+    ensures { λ r. ⌜ (take (r .count) (r .letters) ≡ kindText kind) × (r .count ≤ length (r .letters)) ⌝ }
 {
     match kind {
         Kind::Telecommand => Word {
             letters: *b"tc     ",
-            length: 2,
+            count: 2,
         },
         Kind::TelecommandAck => Word {
             letters: *b"tcack  ",
-            length: 5,
+            count: 5,
         },
         Kind::TelecommandNack => Word {
             letters: *b"tcnack ",
-            length: 6,
+            count: 6,
         },
         Kind::TelemetryRequest => Word {
             letters: *b"tlmreq ",
-            length: 6,
+            count: 6,
         },
         Kind::TelemetryResponse => Word {
             letters: *b"tlmrsp ",
-            length: 6,
+            count: 6,
         },
         Kind::TelemetryNack => Word {
             letters: *b"tlmnack",
-            length: 7,
+            count: 7,
         },
         Kind::Event => Word {
             letters: *b"event  ",
-            length: 5,
+            count: 5,
         },
     }
 }

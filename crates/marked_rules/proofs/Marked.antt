@@ -49,13 +49,13 @@ unfolding setupBytes opened afterRounds askedAgain
     serial·Frames.addressBytes serial·Frames.sourceLegal serial·Frames.sourceChecked serial·Frames.kindRead serial·Frames.identified
     serial·Frames.frameBody serial·Frames.closed serial·Frames.rowRead serial·Frames.started serial·Frames.frameRead serial·Frames.frontFields
     serial·Frames.frameBytes serial·Frames.checkedFrame serial·Frames.frameWrite
-    can·Can.seriesType can·Can.seriesKind can·Can.kindOr can·Can.kindOfType can·Can.identifier can·Can.frame can·Can.inSeries can·Can.series can·Can.framesAfter can·Can.canBytes can·Can.canWrite
+    can·Can.seriesType can·Can.seriesKind can·Can.kindOr can·Can.kindOfType can·Can.identifier can·Can.canFrame can·Can.inSeries can·Can.series can·Can.framesAfter can·Can.canBytes can·Can.canWrite
     can·Can.typeLegal can·Can.zeros can·Can.firstFits can·Can.firstChecks can·Can.laterFits can·Can.sameBytes can·Can.laterChecks can·Can.prepend
     can·Can.laterFrames can·Can.allFrames can·Can.canError can·Can.canMessage can·Can.canIdLegal can·Can.canFits can·Can.messageChecks can·Can.complete can·Can.canRead
     link·Link.linkRead link·Link.linkWrite link·Link.linkCarried
     file·File.sizeLegal file·File.frameCount file·File.fileFrame
     file·Checksum.sum file·Checksum.checksum
-    device·Device.frame device·Device.noTransfer device·Device.newDevice
+    device·Device.bufferedFrame device·Device.noTransfer device·Device.newDevice
     device·Faults.fault device·Faults.setupFault device·Faults.bufferFault device·Faults.numberFault device·Faults.takeFault device·Faults.frameFault
     device·Faults.commandFault
     device·Commands.newTransfer device·Commands.takeDone device·Commands.frameDone device·Commands.transferDone device·Commands.commandDone

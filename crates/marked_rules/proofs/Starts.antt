@@ -39,8 +39,8 @@ accepted l source destination a =
     }
 
 -- So demand 3 speaks of some world, whatever the link.
-pub starts : (l : Link) → Start file (opened l)
-starts Uart = accepted Uart 0 0 (setup-accepted Uart)
-starts Rs485 = accepted Rs485 255 31 (setup-accepted Rs485)
-starts Can = accepted Can 255 31 (setup-accepted Can)
-starts Csp = accepted Csp 0 0 (setup-accepted Csp)
+pub every-link-starts : (l : Link) → Start file (opened l)
+every-link-starts Uart = accepted Uart 0 0 (setup-accepted Uart)
+every-link-starts Rs485 = accepted Rs485 255 31 (setup-accepted Rs485)
+every-link-starts Can = accepted Can 255 31 (setup-accepted Can)
+every-link-starts Csp = accepted Csp 0 0 (setup-accepted Csp)

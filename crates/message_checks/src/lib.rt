@@ -1,16 +1,13 @@
 // The checks of a message, in their order: 5 the ID, 6 the length and 7 the error byte, when it is read and when it is written, and before
-// them, when it is written, 9 the link. Where CAN is read an event's ID is 255, a series has more than 8 bytes and no error byte is there: it
-// takes the tests of 5 and 6 one by one.
-// The rules are definitions of `message_rules`: `Checks` (the rows) and `Kinds` (the ranges).
-mod legal;
-mod ranges;
-
-pub use legal::id_legal;
-pub use legal::payload_legal;
+// them, when it is written, 9 the link. `can_reader` does not use them: on CAN an event's ID is 255, a series has more than 8 bytes, and there
+// is no error byte. It takes the tests of ID and length from `message_ranges`.
+// The rules are definitions of `message_rules`: `Checks`.
 ghost use mathlib.Core.Path.{_≡_};
 ghost use Rattle.message_rules.specs.Answer.{verdictResult};
 ghost use Rattle.message_rules.specs.Checks.{fieldChecks, errorTold, writable, writeChecks, dataFits, dataChecks};
-use legal::error_legal;
+use message_ranges::error_legal;
+use message_ranges::id_legal;
+use message_ranges::payload_legal;
 use message_rules::Carries;
 use message_rules::ErrorByte;
 use message_rules::Kind;
@@ -58,7 +55,7 @@ fn writable(link: Carries, message: Message) -> bool
     ensures { λ r. ⌜ r ≡ writable link message ⌝ }
 {
     let kind = message.kind;
-    if message_fields::is_event(kind) {
+    if message_kinds::is_event(kind) {
         return link.events;
     }
     if !link.errors {
@@ -73,14 +70,14 @@ fn error_told(kind: Kind, error: ErrorByte) -> bool
 {
     match error {
         ErrorByte::Told(_) => true,
-        ErrorByte::NotTold => !message_fields::is_nack(kind),
+        ErrorByte::NotTold => !message_kinds::is_nack(kind),
     }
 }
 
 fn data_fits(kind: Kind, size: usize) -> bool
     ensures { λ r. ⌜ r ≡ dataFits kind size ⌝ }
 {
-    let tells = message_fields::error_length(kind);
+    let tells = message_kinds::error_length(kind);
     if size < tells {
         return false;
     }

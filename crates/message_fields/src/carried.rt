@@ -2,7 +2,7 @@
 ghost use mathlib.Core.Bool.{true};
 ghost use mathlib.Core.Path.{_≡_};
 ghost use Rattle.message_rules.specs.Kinds.{errorCarried, indexCarried, errorFieldsCarried};
-use crate::kinds::error_length;
+use message_kinds::error_length;
 use message_rules::ErrorByte;
 use message_rules::Kind;
 use message_rules::Message;

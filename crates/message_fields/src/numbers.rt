@@ -1,13 +1,13 @@
 // Document 01's number of a refusal, and the number of an error byte. The rules are definitions of `message_rules`: `Answer` and `Data`.
 ghost use mathlib.Core.Path.{_≡_};
-ghost use Rattle.message_rules.specs.Answer.{number};
+ghost use Rattle.message_rules.specs.Answer.{refusalNumber};
 ghost use Rattle.message_rules.specs.Data.{errorNumber};
 use message_rules::ErrorByte;
 use message_rules::Refusal;
 
 // Document 01's number.
 pub fn refusal_number(refusal: Refusal) -> u8
-    ensures { λ r. ⌜ r ≡ number refusal ⌝ }
+    ensures { λ r. ⌜ r ≡ refusalNumber refusal ⌝ }
 {
     match refusal {
         Refusal::Truncated => 1,

@@ -1,4 +1,4 @@
-// Bytes into a lent output, for everyone who has them as they are to stand there.
+// Puts bytes, unchanged, into a lent output.
 ghost use mathlib.Core.Path.{_≡_};
 ghost use Rattle.message_rules.specs.Answer.{writeResult, within, counted, outputAfter, written};
 use message_rules::Refusal;

@@ -2,17 +2,17 @@
 use Prim.Native.Nat.{ℕ, suc, _+_, _≤_, _<_}
 use mathlib.Core.Path.{_≡_, refl, _∙_, ap}
 use mathlib.Core.Bool.{Bool, true, false}
-use mathlib.Core.List.{List, [], _∷_, _++_}
+use mathlib.Core.List.{List, [], _∷_, _++_, append-nil}
 use native.Mathlib.Numerals.{add-one}
 use native.Mathlib.Omega.{arith}
 use borrow.Author.Tests.{le-leb, lt-leb, leb-true, leb-false}
 use lib.Dec.{leb}
 use lib.ListN.{length, getD, set, take, drop, length-append}
-use lib.Seq.{drop-cons, take-suc, append-snoc, set-at, length-take-le, take-length, take-at}
+use lib.Seq.{drop-cons, take-suc, append-snoc, set-at, length-take-le, take-length, take-at, drop-length}
 use Rattle.message_rules.specs.declared.Refusal.{Refusal}
 use Rattle.message_rules.specs.declared.WriteAnswer.{WriteAnswer}
 use Rattle.message_rules.specs.declared.WriteAnswer.the-variants.{Refused, Length}
-use Rattle.message_rules.specs.Answer.{Check, passed, failed, number, writeResult, written, Answer, refused, given, require, after, within, counted, outputAfter, about}
+use Rattle.message_rules.specs.Answer.{Check, passed, failed, refusalNumber, writeResult, written, Answer, refused, given, require, after, within, counted, outputAfter, about}
 
 module _ {A : Type 0} (out : List ℕ) (a : A) (b : List ℕ) where
   pub too-short : length out < length b → within out (given a b) ≡ refused 8
@@ -25,17 +25,17 @@ module _ {A : Type 0} (out : List ℕ) (a : A) (b : List ℕ) where
 
 -- What a caller can tell from an answer: a refusal is the output's, and a count is that of the bytes, which fit.
 module _ {A : Type 0} (a : A) (out b : List ℕ) (n : ℕ) where
-  pub told-short : counted (within out (given a b)) ≡ refused n → (length out < length b) × (n ≡ 8)
+  pub counted-short : counted (within out (given a b)) ≡ refused n → (length out < length b) × (n ≡ 8)
   unfolding counted within require after
-  told-short e = by (leb (length b) (length out)) refl
+  counted-short e = by (leb (length b) (length out)) refl
     where
       by : (t : Bool) → leb (length b) (length out) ≡ t → (length out < length b) × (n ≡ 8)
       by true q = absurd (let z : _≡_ {A = ℕ} 0 1 = cc (rw q at e) in omega arith)
       by false q = (leb-false _ _ q, cc (rw q at e))
 
-  pub told-length : (a′ : A) → counted (within out (given a b)) ≡ given a′ n → (length b ≤ length out) × (n ≡ length b)
+  pub counted-fits : (a′ : A) → counted (within out (given a b)) ≡ given a′ n → (length b ≤ length out) × (n ≡ length b)
   unfolding counted within require after
-  told-length a′ e = by (leb (length b) (length out)) refl
+  counted-fits a′ e = by (leb (length b) (length out)) refl
     where
       by : (t : Bool) → leb (length b) (length out) ≡ t → (length b ≤ length out) × (n ≡ length b)
       by true q = (leb-true _ _ q, cc (rw q at e))
@@ -114,8 +114,8 @@ module _ {A A′ : Type 0} (a : A′) (out : List ℕ) where
   output-about (refused n) = refl
   output-about (given a′ b) = refl
 
-  pub about-told : (x : Answer A (List ℕ)) → counted (within out (about a x)) ≡ about a (counted (within out x))
-  about-told x = rw (within-about x) (counted-about (within out x))
+  pub about-counted : (x : Answer A (List ℕ)) → counted (within out (about a x)) ≡ about a (counted (within out x))
+  about-counted x = rw (within-about x) (counted-about (within out x))
 
   pub about-output : (x : Answer A (List ℕ)) → outputAfter (within out (about a x)) out ≡ outputAfter (within out x) out
   about-output x = rw (within-about x) (output-about (within out x))
@@ -129,18 +129,23 @@ copy-step bytes out i h k =
 pub copy-done : (bytes out : List ℕ) (i : ℕ) → i ≡ length bytes → take i bytes ++ drop i out ≡ bytes ++ drop (length bytes) out
 copy-done bytes out i e = rw (e, take-length)
 
+-- Bytes that were put over all of an output are what it holds.
+pub put-all : (out bytes left : List ℕ) → left ≡ outputAfter (within out (written bytes)) out → length bytes ≡ length out → left ≡ bytes
+unfolding outputAfter
+put-all out bytes left e same = e ∙ rw (long-enough out (tt {0}) bytes (omega arith), same, drop-length) (append-nil bytes)
+
 -- What a caller of `put` learns in each case of its answer.
 module _ (bytes out out′ : List ℕ) (w : WriteAnswer) (says : writeResult w ≡ counted (within out (written bytes))) (left : out′ ≡ outputAfter (within out (written bytes)) out) where
-  pub put-refused : (r : Refusal) → w ≡ Refused r → (length out < length bytes) × (number r ≡ 8) × (out′ ≡ out)
+  pub put-refused : (r : Refusal) → w ≡ Refused r → (length out < length bytes) × (refusalNumber r ≡ 8) × (out′ ≡ out)
   unfolding writeResult
   put-refused r e =
-      let t : counted (within out (written bytes)) ≡ refused (number r) = cc in
-      let h = told-short tt out bytes (number r) t in
+      let t : counted (within out (written bytes)) ≡ refused (refusalNumber r) = cc in
+      let h = counted-short tt out bytes (refusalNumber r) t in
       (h .0, h .1, left ∙ refusal-leaves _ _ out t)
 
   pub put-length : (n : ℕ) → w ≡ Length n → (length bytes ≤ length out) × (n ≡ length bytes) × (out′ ≡ bytes ++ drop (length bytes) out)
   unfolding writeResult outputAfter
   put-length n e =
       let t : counted (within out (written bytes)) ≡ writeResult (Length n) = cc in
-      let h = told-length tt out bytes n tt t in
+      let h = counted-fits tt out bytes n tt t in
       (h .0, h .1, left ∙ rw (long-enough out (tt {0}) bytes (h .0)))

@@ -1,7 +1,7 @@
 -- The laws of a row of checks, by its tests in their order: which number a failed one gives, and that the row passes exactly where each holds.
 use Prim.Native.Nat.{ℕ, _≤_}
 use mathlib.Core.Path.{_≡_, refl}
-use mathlib.Core.Bool.{Bool, true, false, _&&_}
+use mathlib.Core.Bool.{Bool, true, false, _&&_, _||_}
 use native.Mathlib.Omega.{arith}
 use borrow.Author.Tests.{leb-true}
 use lib.Dec.{leb}
@@ -21,6 +21,10 @@ require-passed false n rest e = absurd (let z : _≡_ {A = ℕ} 0 1 = cc in omeg
 pub both-true : (a b : Bool) → a && b ≡ true → (a ≡ true) × (b ≡ true)
 both-true true b e = (refl, e)
 both-true false b e = absurd (let z : _≡_ {A = ℕ} 0 1 = cc in omega arith)
+
+pub both-false : (a b : Bool) → a || b ≡ false → (a ≡ false) × (b ≡ false)
+both-false false b e = (refl, e)
+both-false true b e = absurd (let z : _≡_ {A = ℕ} 0 1 = cc in omega arith)
 
 module _ (m : Message) (fits : Bool) where
   -- "5, 6, 7": an ID out of the kind's range is 5, whatever the length is;
@@ -44,7 +48,7 @@ module _ (m : Message) (fits : Bool) where
   unfolding fieldChecks require
   fields-pass h5 h6 h7 = rw (h5, h6, h7)
 
--- A message is writable on a link without events and without "not told" exactly where it is neither.
+-- On a link with error bytes and no events a message is writable exactly where it is no event and no nack that is "not told".
 pub plain-writable : (m : Message) → writable (record { events = false; errors = true }) m ≡ true → (isEvent (m .kind) ≡ false) × (errorTold (m .kind) (m .error) ≡ true)
 unfolding writable
 plain-writable m e = by (isEvent (m .kind)) refl

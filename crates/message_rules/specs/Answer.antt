@@ -16,18 +16,18 @@ use Rattle.message_rules.specs.declared.WriteAnswer.{WriteAnswer}
 use Rattle.message_rules.specs.declared.WriteAnswer.the-variants as WriteAnswer·of
 
 -- "Refusal numbers": the table's number of each refusal.
-abbrev pub number : Refusal → ℕ
-number Truncated = 1
-number UnknownStart = 2
-number BrokenEscape = 3
-number TrailingBytes = 4
-number IdOutOfRange = 5
-number WrongLength = 6
-number IllegalValue = 7
-number OutputTooShort = 8
-number NotWritable = 9
-number SeriesMismatch = 10
-number IllegalFileSize = 11
+abbrev pub refusalNumber : Refusal → ℕ
+refusalNumber Truncated = 1
+refusalNumber UnknownStart = 2
+refusalNumber BrokenEscape = 3
+refusalNumber TrailingBytes = 4
+refusalNumber IdOutOfRange = 5
+refusalNumber WrongLength = 6
+refusalNumber IllegalValue = 7
+refusalNumber OutputTooShort = 8
+refusalNumber NotWritable = 9
+refusalNumber SeriesMismatch = 10
+refusalNumber IllegalFileSize = 11
 
 -- What the checks of an input come to: the first that fails gives its number.
 pub data Check : Type 0 where
@@ -78,12 +78,12 @@ written b = given tt b
 -- Document 01's number and values for each case of the code's answers.
 unfoldable pub verdictResult : Verdict → Check
 verdictResult Verdict·of.Passed = passed
-verdictResult (Verdict·of.Refused r) = failed (number r)
+verdictResult (Verdict·of.Refused r) = failed (refusalNumber r)
 
 unfoldable pub readResult : ReadAnswer → Answer Message ℕ
-readResult (ReadAnswer·of.Refused r) = refused (number r)
+readResult (ReadAnswer·of.Refused r) = refused (refusalNumber r)
 readResult (ReadAnswer·of.Message m n) = given m n
 
 unfoldable pub writeResult : WriteAnswer → Answer Unit ℕ
-writeResult (WriteAnswer·of.Refused r) = refused (number r)
+writeResult (WriteAnswer·of.Refused r) = refused (refusalNumber r)
 writeResult (WriteAnswer·of.Length n) = given tt n

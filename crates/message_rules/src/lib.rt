@@ -2,7 +2,8 @@
 //
 // The rules are definitions of `specs/`: `Kinds` (which IDs, lengths and error bytes a kind has), `Checks` (the order of
 // the refusals 9, 5, 6, 7), `Data` (the data on UART, RS485 and CSP) and `Answer` (what a refusal or an answer is). Their code is in
-// crates of their own: the fields `message_fields`, the checks `message_checks`; bytes reach a lent output by `message_output`.
+// crates of their own: the tables by the kind `message_kinds`, the fields `message_fields`, the ranges `message_ranges`, the checks
+// `message_checks`; bytes reach a lent output by `message_output`.
 
 // The seven kinds, with document 01's name for each.
 pub enum Kind {

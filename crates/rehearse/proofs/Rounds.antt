@@ -18,7 +18,7 @@ use Rattle.round_rules.specs.World.{isFailed}
 use Rattle.sender_rules.specs.Sending.{sending}
 use Rattle.sender_rules.specs.declared.Sender.{Sender}
 use Rattle.rehearse.specs.Course.{roundOf, roundsOf}
-use Rattle.rehearse.specs.Rounds.{Leaves, over}
+use Rattle.rehearse.specs.Rounds.{Leaves, runOver}
 use Rattle.rehearse.specs.declared.course.Course.{Course}
 use Rattle.rehearse.specs.declared.run.Ran.{Ran}
 
@@ -59,16 +59,16 @@ module _ (file : List ℕ) (d : Device) (store : List ℕ) (s : Sender) (c : Cou
       }
 
 -- The three ends.
-pub over-refused : (r : Ran) (f : Refusal) → r .verdict ≡ Verdict·of.Refused f → over r ≡ true
-unfolding over verdictResult isFailed
+pub over-refused : (r : Ran) (f : Refusal) → r .verdict ≡ Verdict·of.Refused f → runOver r ≡ true
+unfolding runOver verdictResult isFailed
 over-refused r f e = rw e
 
-pub over-ended : (d : Device) (s : Sender) (n : ℕ) → isRunning (s .state) ≡ false → over (after d s n) ≡ true
-unfolding over verdictResult isFailed
+pub over-ended : (d : Device) (s : Sender) (n : ℕ) → isRunning (s .state) ≡ false → runOver (after d s n) ≡ true
+unfolding runOver verdictResult isFailed
 over-ended d s n e = rw e
 
-pub over-bound : (d : Device) (s : Sender) (n : ℕ) → n ≡ 13107000 → over (after d s n) ≡ true
-unfolding over verdictResult isFailed
+pub over-bound : (d : Device) (s : Sender) (n : ℕ) → n ≡ 13107000 → runOver (after d s n) ≡ true
+unfolding runOver verdictResult isFailed
 over-bound d s n e = rw (eq-eqb n 13107000 e) (by (isRunning (s .state)) refl)
   where
     by : (t : Bool) → isRunning (s .state) ≡ t → (not (isRunning (s .state)) || true) ≡ true

@@ -30,5 +30,5 @@ pub record Leaves (file : List ℕ) (d : Device) (store : List ℕ) (s : Sender)
   pub ran : 1 ≤ r .count → isRunning (madeBy file d store s c (r .count - 1) .requester .state) ≡ true
 
 -- No round is left to make: the last was refused, or the sender has ended, or there were 200 for each of 65,535 frames.
-unfoldable pub over : Ran → Bool
-over r = isFailed (verdictResult (r .verdict)) || (not (isRunning (r .sender .state)) || eqb (r .count) 13107000)
+unfoldable pub runOver : Ran → Bool
+runOver r = isFailed (verdictResult (r .verdict)) || (not (isRunning (r .sender .state)) || eqb (r .count) 13107000)

@@ -2,7 +2,7 @@
 ghost use mathlib.Core.Path.{_≡_};
 ghost use mathlib.Core.Bool.{true};
 ghost use Rattle.round_rules.specs.Requester.{isRunning};
-ghost use Rattle.rehearse.specs.Rounds.{Leaves, over};
+ghost use Rattle.rehearse.specs.Rounds.{Leaves, runOver};
 use crate::course;
 use crate::course::Course;
 use crate::progress;
@@ -25,7 +25,7 @@ pub struct Ran {
 // Makes the rounds of a course until the sender ends, with its file and the unit's store.
 pub(crate) fn run(unit: Device, first: Sender, course: Course, file: &[u8], store: &mut [u8]) -> Ran
     ensures { λ r. ⌜ Leaves (now (file .entry)) unit (now (store .entry)) first course r (now (store .exit)) ⌝ }
-    ensures { λ r. ⌜ over r ≡ true ⌝ }
+    ensures { λ r. ⌜ runOver r ≡ true ⌝ }
 {
     let mut device = unit;
     let mut sender = first;

@@ -6,7 +6,7 @@ use crate::call::message;
 use crate::input::front;
 use crate::input::output;
 use crate::print;
-use can_records::CanFrame;
+use can_rules::CanFrame;
 use message_rules::ReadAnswer;
 use message_rules::WriteAnswer;
 
@@ -52,7 +52,12 @@ fn print_written(answer: WriteAnswer) {
 
 // records COUNT KIND ID SOURCE DESTINATION ERROR INDEX PAYLOAD
 fn records(call: Call, bytes: &[u8]) {
-    let written = crate::records::write(message(call), front(bytes, call[8]), lent(), call[1]);
+    let written = crate::records::write(
+        message(call),
+        front(bytes, call[8]),
+        fresh_records(),
+        call[1],
+    );
     let answer = written.answer;
     let frames = written.frames;
     print_written(answer);
@@ -60,7 +65,7 @@ fn records(call: Call, bytes: &[u8]) {
 }
 
 // The lent records before the call.
-fn lent() -> [CanFrame; 64] {
+fn fresh_records() -> [CanFrame; 64] {
     let frame = CanFrame {
         identifier: 0xA5A5_A5A5,
         dlc: 0xA5,

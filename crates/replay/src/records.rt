@@ -1,9 +1,9 @@
-// Records in an array, for the call `records`: the library fills a lent list, and a script keeps 64 records by value.
+// Records in an array, for the call `records`: the library fills a lent list, and `replay` keeps 64 records in an array.
 ghost use mathlib.Core.Path.{_≡_};
 ghost use Rattle.message_rules.specs.Answer.{writeResult};
-ghost use Rattle.can_records.specs.Records.{recordsWrite, fitting, used, filled};
-ghost use Rattle.replay.specs.Lent.{lentOf};
-use can_records::CanFrame;
+ghost use Rattle.can_rules.specs.Records.{recordsWrite, fitting, recordsCounted, filled};
+ghost use Rattle.replay.specs.LentCount.{lentCount};
+use can_rules::CanFrame;
 use message_rules::Message;
 use message_rules::WriteAnswer;
 
@@ -20,11 +20,11 @@ pub(crate) fn write(
     frames: [CanFrame; 64],
     count: usize,
 ) -> Written
-    ensures { λ r. ⌜ writeResult (r .answer) ≡ used (fitting (lentOf count) (recordsWrite message (now (payload .entry)))) ⌝ }
-    ensures { λ r. ⌜ r .frames ≡ filled (fitting (lentOf count) (recordsWrite message (now (payload .entry)))) frames ⌝ }
+    ensures { λ r. ⌜ writeResult (r .answer) ≡ recordsCounted (fitting (lentCount count) (recordsWrite message (now (payload .entry)))) ⌝ }
+    ensures { λ r. ⌜ r .frames ≡ filled (fitting (lentCount count) (recordsWrite message (now (payload .entry)))) frames ⌝ }
 {
     let mut kept = frames;
-    let n = lent(count);
+    let n = lent_count(count);
     let answer = can_records::write(message, payload, &mut kept[..n]);
     Written {
         frames: kept,
@@ -33,8 +33,8 @@ pub(crate) fn write(
 }
 
 // How many of the 64 are lent.
-fn lent(count: usize) -> usize
-    ensures { λ r. ⌜ r ≡ lentOf count ⌝ }
+fn lent_count(count: usize) -> usize
+    ensures { λ r. ⌜ r ≡ lentCount count ⌝ }
 {
     if count < 64 { count } else { 64 }
 }

@@ -13,7 +13,7 @@ use Rattle.round_rules.specs.declared.Fate.the-variants.{Delivered, Requ
 use Rattle.round_rules.specs.declared.Round.{Round}
 use Rattle.round_rules.specs.World.{World, Call, works, asks, arrives, hears, runsOn, does, run, isRefused, answerCheck, isFailed, callCheck}
 use Rattle.round_rules.proofs.Lists.{run-append}
-use Rattle.round_rules.proofs.Steady.{runs, ended, Shape, Steady, Free, Ends, Invariant, clash, over}
+use Rattle.round_rules.proofs.Steady.{runs, ended, Shape, Steady, Free, HasEnded, Invariant, clash, over}
 
 -- No call of a list is refused.
 unfoldable pub Unrefused : {S : Type 0} → Requester S → World S → List Call → Type 0
@@ -126,22 +126,22 @@ module _ {S : Type 0} {a : Requester S} {k : Shape S} (st : Steady a k) (f : Fre
       by false e = rw e (requested-plays (r .fate) false w past n h)
 
   -- After the end the calls of a round are no round.
-  asks-plays : (fate : Fate) (w : World S) (past : List Bool) (n : k .Note) → Ends k w past n → Plays a k (Ends k) w between (requested a w fate) []
+  asks-plays : (fate : Fate) (w : World S) (past : List Bool) (n : k .Note) → HasEnded k w past n → Plays a k (HasEnded k) w between (requested a w fate) []
   unfolding isRefused callCheck answerCheck isFailed within after require does
   asks-plays fate w past n h =
       let over = st .isOver w past n h in
       rw (requested-ended a w fate over)
-      (first a k (Ends k) w between between (asks shared output) [] [] (rw (st .asksNoMore (w .requester) shared over)) (λ rest rs. endedAsks over) (none a k (Ends k) _ past n h))
+      (first a k (HasEnded k) w between between (asks shared output) [] [] (rw (st .asksNoMore (w .requester) shared over)) (λ rest rs. endedAsks over) (none a k (HasEnded k) _ past n h))
 
-  ended-plays : (r : Round) (w : World S) (past : List Bool) (n : k .Note) → Ends k w past n → Plays a k (Ends k) w between (roundCalls a w r) []
+  ended-plays : (r : Round) (w : World S) (past : List Bool) (n : k .Note) → HasEnded k w past n → Plays a k (HasEnded k) w between (roundCalls a w r) []
   unfolding roundCalls does
   ended-plays r w past n h = by (r .worked) refl
     where
-      by : (d : Bool) → r .worked ≡ d → Plays a k (Ends k) w between (roundCalls a w r) []
+      by : (d : Bool) → r .worked ≡ d → Plays a k (HasEnded k) w between (roundCalls a w r) []
       by true e =
           let over = st .isOver w past n h in
           let free = f .worksOnFree w past n h in
-          rw e (first a k (Ends k) w between between (works shared) _ [] free (λ rest rs. endedWorks over free) (asks-plays (r .fate) _ past _ (st .worksOn w past n free h)))
+          rw e (first a k (HasEnded k) w between between (works shared) _ [] free (λ rest rs. endedWorks over free) (asks-plays (r .fate) _ past _ (st .worksOn w past n free h)))
       by false e = rw e (asks-plays (r .fate) w past n h)
 
   -- From a round to the next nothing is refused, and the invariant holds.
@@ -150,7 +150,7 @@ module _ {S : Type 0} {a : Requester S} {k : Shape S} (st : Steady a k) (f : Fre
   next-round r w past n (runs h) = let g = round-plays r w past n h in (g .free, (g .past, (g .note, g .kept)))
   next-round r w past n (ended h) = let g = ended-plays r w past n h in (g .free, (g .past, (g .note, ended (g .kept))))
 
-  ended-schedule : (rs : List Round) (w : World S) (past : List Bool) (n : k .Note) → Ends k w past n
+  ended-schedule : (rs : List Round) (w : World S) (past : List Bool) (n : k .Note) → HasEnded k w past n
       → Legal a w between (scheduled a w rs) [] × (runsOn a (run a w (scheduled a w rs)) ≡ false)
   unfolding scheduled run
   ended-schedule [] w past n h = (stops, st .isOver w past n h)

@@ -62,11 +62,11 @@ clash true e f = absurd (let z : _≡_ {A = ℕ} 0 1 = cc in omega arith)
 clash false e f = absurd (let z : _≡_ {A = ℕ} 0 1 = cc in omega arith)
 
 module _ {S : Type 0} (k : Shape S) where
-  abbrev pub Ends : World S → List Bool → k .Note → Type 0
-  Ends w past n = k .Ended (w .device) (w .store) (w .requester) past n
+  abbrev pub HasEnded : World S → List Bool → k .Note → Type 0
+  HasEnded w past n = k .Ended (w .device) (w .store) (w .requester) past n
 
   abbrev pub Invariant : World S → List Bool → k .Note → Place → Type 0
-  Invariant w past n p = Either (k .Running w past n) (Ends w past n) p
+  Invariant w past n p = Either (k .Running w past n) (HasEnded w past n) p
 
 module _ {S : Type 0} (a : Requester S) (k : Shape S) where
   -- The note after a call, and after a list of them.
@@ -92,7 +92,7 @@ module _ {S : Type 0} (a : Requester S) (k : Shape S) where
     pub onceFree : (w : World S) (past : List Bool) (n : k .Note) (d : Bool) → k .Running w past n (asked d) → isRefused a w (arrives (w .request) shared output) ≡ false
     pub againFree : (w : World S) (past : List Bool) (n : k .Note) (d : Bool) → k .Running w past n (arrived d) → isRefused a w (arrives (w .request) shared output) ≡ false
     pub hearsFree : (w : World S) (past : List Bool) (n : k .Note) (p : Place) (b : List ℕ) → k .Running w past n p → isRefused a w (hears shared b) ≡ false
-    pub worksOnFree : (w : World S) (past : List Bool) (n : k .Note) → Ends k w past n → isRefused a w (works shared) ≡ false
+    pub worksOnFree : (w : World S) (past : List Bool) (n : k .Note) → HasEnded k w past n → isRefused a w (works shared) ≡ false
 
 module _ {S : Type 0} {a : Requester S} {k : Shape S} (st : Steady a k) where
   module _ (w : World S) (past : List Bool) (n : k .Note) where
@@ -111,24 +111,24 @@ module _ {S : Type 0} {a : Requester S} {k : Shape S} (st : Steady a k) where
     running p e (runs h) = h
     running p e (ended h) = clash (runsOn a w) e (st .isOver w past n h)
 
-    pub over : runsOn a w ≡ false → Invariant k w past n between → Ends k w past n
+    pub over : runsOn a w ≡ false → Invariant k w past n between → HasEnded k w past n
     over e (runs h) = clash (runsOn a w) (st .goesOn w past n between h) e
     over e (ended h) = h
 
     -- After the end the requester's calls change nothing that counts.
-    ended-hears : (l : Lent) (b : List ℕ) → runsOn a w ≡ false → Ends k w past n → Ends k (does a w (hears l b)) past (noted a k w (hears l b) n)
+    ended-hears : (l : Lent) (b : List ℕ) → runsOn a w ≡ false → HasEnded k w past n → HasEnded k (does a w (hears l b)) past (noted a k w (hears l b) n)
     unfolding does requesterOr noted note isRefused callCheck answerCheck isFailed
     ended-hears l b e h = rw (st .hearsNoMore (w .requester) l b e) h
 
-    ended-asks : (l : Lent) (out : List ℕ) → Ends k w past n → Ends k (does a w (asks l out)) past (noted a k w (asks l out) n)
+    ended-asks : (l : Lent) (out : List ℕ) → HasEnded k w past n → HasEnded k (does a w (asks l out)) past (noted a k w (asks l out) n)
     unfolding does noted note
     ended-asks l out h = by (isRefused a w (asks l out))
       where
-        by : (t : Bool) → Ends k w past (cond t n n)
+        by : (t : Bool) → HasEnded k w past (cond t n n)
         by true = h
         by false = h
 
-    ended-works : isRefused a w (works shared) ≡ false → Ends k w past n → Ends k (does a w (works shared)) past (noted a k w (works shared) n)
+    ended-works : isRefused a w (works shared) ≡ false → HasEnded k w past n → HasEnded k (does a w (works shared)) past (noted a k w (works shared) n)
     unfolding note does
     ended-works e h = rw (noted-done (works shared) e) (st .worksOn w past n e h)
 

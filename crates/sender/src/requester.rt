@@ -39,8 +39,8 @@ fn request_payload<'a>(stage: Stage, file: &'a [u8], frame: u32, number: &'a [u8
     ensures { λ r. ⌜ now r ≡ requestPayload stage (now (file .entry)) frame ⌝ }
 {
     match stage {
-        Stage::Frame => file_frames::frame_bytes(file, frame),
-        Stage::Back => file_frames::frame_bytes(file, frame),
+        Stage::Frame => file_frames::file_frame(file, frame),
+        Stage::Back => file_frames::file_frame(file, frame),
         Stage::Compare => &file[..0],
         Stage::Take => number,
         Stage::Confirm => &file[..0],

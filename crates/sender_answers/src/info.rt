@@ -16,14 +16,14 @@ pub(crate) fn info_meaning(stage: Stage, file: &[u8], frame: u32, info: &[u8]) -
     match stage {
         Stage::Frame => Meaning::Stay,
         Stage::Back => Meaning::Stay,
-        Stage::Compare => unless_error(info, compared(file_frames::frame_bytes(file, frame), info)),
+        Stage::Compare => informed(info, compared(file_frames::file_frame(file, frame), info)),
         Stage::Take => Meaning::Stay,
-        Stage::Confirm => unless_error(info, confirmed(frame, info)),
+        Stage::Confirm => informed(info, confirmed(frame, info)),
     }
 }
 
 // The error flag ends it, whatever else the frame info says.
-fn unless_error(info: &[u8], meaning: Meaning) -> Meaning
+fn informed(info: &[u8], meaning: Meaning) -> Meaning
     requires { ⌜ length (now info) ≡ 7 ⌝ }
     ensures { λ r. ⌜ r ≡ informed (now (info .entry)) meaning ⌝ }
 {

@@ -141,22 +141,22 @@ hear-counts s file b s′ on e =
     rw (← next) (over (s .link) (s .source) (s .destination) (s .size) (s .frame) (s .since) (s .rounds) (s .state) (still (s .state) on) m (s .stage) (possible s file _))
 
 -- All rounds of a sender are at most those since its last step and fifty for each step; while it runs, fewer than fifty are since.
-abbrev pub Within : Sender → Type 0
-Within s = (s .rounds ≤ s .since + 50 * steps s) × (isRunning (s .state) ≡ true → s .since < 50)
+abbrev pub RoundsWithin : Sender → Type 0
+RoundsWithin s = (s .rounds ≤ s .since + 50 * steps s) × (isRunning (s .state) ≡ true → s .since < 50)
 
-pub start-within : (l : Link) (source destination n : ℕ) → Within (newSender l source destination n)
+pub start-within : (l : Link) (source destination n : ℕ) → RoundsWithin (newSender l source destination n)
 unfolding newSender steps
 start-within l source destination n = (omega arith, λ e. omega arith)
 
-counts-within : (s s′ : Sender) → s .since < 50 → s .rounds ≤ s .since + 50 * steps s → Counts s s′ → Within s′
+counts-within : (s s′ : Sender) → s .since < 50 → s .rounds ≤ s .since + 50 * steps s → Counts s s′ → RoundsWithin s′
 unfolding oneMore
 counts-within s s′ few had (step r i k) = (omega (arith, r, i, k, few, had), λ e. omega (arith, i))
 counts-within s s′ few had (none r i k w) = (omega (arith, r, i, k, few, had), λ e. omega (arith, i, w e))
 
-pub hear-within : (s : Sender) (file b : List ℕ) (s′ : Sender) → Within s → hear s file b ≡ given s′ tt → Within s′
+pub hear-within : (s : Sender) (file b : List ℕ) (s′ : Sender) → RoundsWithin s → hear s file b ≡ given s′ tt → RoundsWithin s′
 unfolding hear
 hear-within s file b s′ h e = by (isRunning (s .state)) refl
   where
-    by : (t : Bool) → isRunning (s .state) ≡ t → Within s′
+    by : (t : Bool) → isRunning (s .state) ≡ t → RoundsWithin s′
     by true on = counts-within s s′ (h .1 on) (h .0) (hear-counts s file b s′ on e)
     by false over = let same : s ≡ s′ = cc (rw over at e) in rw (← same) h

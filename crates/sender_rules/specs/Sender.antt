@@ -4,7 +4,7 @@ use mathlib.Core.Bool.{Bool, true, cond, _&&_}
 use mathlib.Core.List.{List, []}
 use lib.Dec.{ltb, eqb}
 use lib.ListN.{length}
-use Rattle.message_rules.specs.Answer.{Answer, Check, refused, given, number, passed, require, after, about}
+use Rattle.message_rules.specs.Answer.{Answer, Check, refused, given, refusalNumber, passed, require, after, about}
 use Rattle.message_rules.specs.declared.ErrorByte.the-variants.{Told}
 use Rattle.message_rules.specs.declared.Kind.{Kind}
 use Rattle.message_rules.specs.declared.Kind.the-variants as Kind·of
@@ -54,7 +54,7 @@ start l source destination n =
 
 -- What the code's answer says, of starting a sender and of its answer call (document 01, "Forms we want to see": "this paper's number and values for each case").
 unfoldable pub senderResult : SenderAnswer → Answer Sender Unit
-senderResult (SenderAnswer·of.Refused r) = refused (number r)
+senderResult (SenderAnswer·of.Refused r) = refused (refusalNumber r)
 senderResult (SenderAnswer·of.Sender s) = given s tt
 
 -- What it sends at each stage: "A: sends frame. B: asks frame info. C: sends take frame i. D: asks frame info."
@@ -103,7 +103,7 @@ request s file =
 
 -- The same of the code's answer to asking for a request.
 unfoldable pub requestResult : RequestAnswer → Answer Sent ℕ
-requestResult (RequestAnswer·of.Refused r) = refused (number r)
+requestResult (RequestAnswer·of.Refused r) = refused (refusalNumber r)
 requestResult (RequestAnswer·of.Request n) = given sent n
 requestResult RequestAnswer·of.Nothing = given nothing 0
 

@@ -25,13 +25,13 @@ pub record Fits (b out : List ℕ) (at to : ℕ) : Type 0 where
   pub room : to + length (scan (drop at b) .body) ≤ length out
 
 -- The output once that body is stored there.
-abbrev pub stored : List ℕ → ℕ → List ℕ → ℕ → List ℕ
-stored b at out to = sets out to (scan (drop at b) .body)
+abbrev pub bodyStored : List ℕ → ℕ → List ℕ → ℕ → List ℕ
+bodyStored b at out to = sets out to (scan (drop at b) .body)
 
 -- What is left to store fits, and makes the output whole.
 pub record Storing (b whole out : List ℕ) (at to : ℕ) : Type 0 where
   pub fits : Fits b out at to
-  pub same : stored b at out to ≡ whole
+  pub same : bodyStored b at out to ≡ whole
 
 -- Storing has come to an ESC, and a byte stands after it.
 pub record AtEscape (b whole out : List ℕ) (at to : ℕ) : Type 0 where

@@ -157,7 +157,7 @@ fn read_data(
             if !source_legal(link, source) {
                 return ReadAnswer::Refused(Refusal::IllegalValue);
             }
-            let skipped = front + message_fields::error_length(kind);
+            let skipped = front + message_kinds::error_length(kind);
             read_payload(link, message, bytes, count, skipped, out)
         }
     }

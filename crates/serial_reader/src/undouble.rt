@@ -4,7 +4,7 @@ ghost use mathlib.Core.Path.{_≡_};
 ghost use mathlib.Core.List.{_++_};
 ghost use lib.ListN.{length, getD, drop};
 ghost use Rattle.serial_rules.specs.Stuffing.{scan};
-ghost use Rattle.serial_reader.specs.Undouble.{Skipped, Fits, AtEscape, stored};
+ghost use Rattle.serial_reader.specs.Undouble.{Skipped, Fits, AtEscape, bodyStored};
 use serial_fields::escape;
 use serial_fields::tail;
 use serial_rules::SerialLink;
@@ -51,7 +51,7 @@ pub(crate) fn copy_plain(
     to: usize,
 ) -> usize
     requires { ⌜ Fits (now bytes) (now out) from to ⌝ }
-    ensures { λ r. ⌜ AtEscape (now (bytes .entry)) (stored (now (bytes .entry)) from (now (out .entry)) to) (now (out .exit)) (from + r) (to + r) ⌝ }
+    ensures { λ r. ⌜ AtEscape (now (bytes .entry)) (bodyStored (now (bytes .entry)) from (now (out .entry)) to) (now (out .exit)) (from + r) (to + r) ⌝ }
 {
     let esc = escape(link);
     let mut n = 0;

@@ -21,7 +21,7 @@ use Rattle.message_rules.proofs.Answers.{after-given, after-passed}
 use Rattle.message_rules.proofs.Data.{data-written, data-read}
 use Rattle.message_rules.proofs.Checks.{require-passed, fields-passed}
 use Rattle.serial_rules.specs.Stuffing.{doubled, scan}
-use Rattle.serial_rules.specs.Frames.{startByte, startRow, rowOf, kindOf, hasAddresses, frontLength, idField, frontFields, sourceLegal, sourceChecked, kindRead, identified, frameBody, closed, rowRead, started, frameRead, carries, frameBytes, checkedFrame, frameWrite}
+use Rattle.serial_rules.specs.Frames.{startByte, startRow, rowOf, kindOf, hasAddresses, frontLength, idField, frontFields, sourceLegal, sourceChecked, kindRead, identified, frameBody, closed, rowRead, started, frameRead, serialCarries, frameBytes, checkedFrame, frameWrite}
 use Rattle.serial_rules.specs.declared.Stop.{Stop}
 use Rattle.serial_rules.specs.declared.Stop.the-variants.{Ended, Broken, Cut}
 use Rattle.serial_rules.specs.declared.StartRow.{StartRow}
@@ -63,9 +63,9 @@ source-carried Rs485 s h = h
 pub written-reads : (l : SerialLink) (m : Message) (p b : List ℕ) → frameWrite l m p ≡ written b → frameRead l b ≡ given (carriedOn (hasAddresses l) true m) p
 unfolding frameWrite checkedFrame frameBytes carriedOn writeChecks sourceChecked require after
 written-reads l m p b e =
-    let w = after-passed (writeChecks (carries l) m (length p)) _ tt b e in
+    let w = after-passed (writeChecks (serialCarries l) m (length p)) _ tt b e in
     let v = after-given (require (sourceLegal l (m .source)) 7 passed) tt tt (frameBytes l m p) b (w .1) in
-    let c = require-passed (writable (carries l) m) 9 _ (w .0) in
+    let c = require-passed (writable (serialCarries l) m) 9 _ (w .0) in
     let row = written-row l m (c .0) in
     let h = fields-passed m (payloadLegal (m .kind) (length p)) (c .1) in
     let r = rowOf (m .kind) in
@@ -88,8 +88,8 @@ kind-writes l r d m p k has long q e =
     let y = sourceChecked-given l _ m p e in
     let z = data-read k _ _ _ _ m p (y .0) in
     let row : rowOf (m .kind) ≡ r = ap (λ (c : Message). rowOf (c .kind)) (sym (z .0)) ∙ row-of-kind r (idField r d) k q in
-    let able : writable (carries l) m ≡ true = read-writable l m (rw row has) (z .1) in
-    let passes : writeChecks (carries l) m (length p) ≡ passed = rw able (z .2) in
+    let able : writable (serialCarries l) m ≡ true = read-writable l m (rw row has) (z .1) in
+    let passes : writeChecks (serialCarries l) m (length p) ≡ passed = rw able (z .2) in
     let body : frontFields l r m ++ dataBytes m p ≡ d =
     rw (z .3) (body-again l r d m long (ap (λ (c : Message). c .id) (sym (z .0))) (ap (λ (c : Message). c .source) (sym (z .0))) (ap (λ (c : Message). c .destination) (sym (z .0)))) in
     rw (passes, y .1, row, body)

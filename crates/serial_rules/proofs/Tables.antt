@@ -18,7 +18,7 @@ use Rattle.message_rules.specs.declared.Message.{Message}
 use Rattle.message_rules.specs.declared.KindLookup.the-variants as KindLookup·of
 use Rattle.message_rules.proofs.Checks.{both-true, plain-writable, writable-plain}
 use Rattle.message_rules.proofs.Tables.{by-row}
-use Rattle.serial_rules.specs.Frames.{startByte, startRow, rowOf, byId, kindOf, hasId, hasAddresses, frontLength, idField, addressField, idBytes, addressBytes, frontFields, carries}
+use Rattle.serial_rules.specs.Frames.{startByte, startRow, rowOf, byId, kindOf, hasId, hasAddresses, frontLength, idField, addressField, idBytes, addressBytes, frontFields, serialCarries}
 use Rattle.serial_rules.specs.declared.RowLookup.the-variants as RowLookup·of
 use Rattle.serial_rules.specs.declared.StartRow.{StartRow}
 use Rattle.serial_rules.specs.declared.StartRow.the-variants.{Request, Reply, Nack, Event}
@@ -198,7 +198,7 @@ has-plain Kind·of.TelemetryNack h = refl
 has-plain Kind·of.Event h = absurd h
 
 -- What a link can write has a row there, and is told.
-pub written-row : (l : SerialLink) (m : Message) → writable (carries l) m ≡ true → Has l (rowOf (m .kind)) × (errorTold (m .kind) (m .error) ≡ true)
+pub written-row : (l : SerialLink) (m : Message) → writable (serialCarries l) m ≡ true → Has l (rowOf (m .kind)) × (errorTold (m .kind) (m .error) ≡ true)
 unfolding writable
 written-row Uart m w = (tt, by (isEvent (m .kind)) refl)
   where
@@ -208,11 +208,11 @@ written-row Uart m w = (tt, by (isEvent (m .kind)) refl)
 written-row Rs485 m w = let h = plain-writable m w in (plain-has (m .kind) (h .0), h .1)
 
 -- And what was read there can be written.
-pub read-writable : (l : SerialLink) (m : Message) → Has l (rowOf (m .kind)) → errorTold (m .kind) (m .error) ≡ true → writable (carries l) m ≡ true
+pub read-writable : (l : SerialLink) (m : Message) → Has l (rowOf (m .kind)) → errorTold (m .kind) (m .error) ≡ true → writable (serialCarries l) m ≡ true
 unfolding writable
 read-writable Uart m h t = by (isEvent (m .kind)) refl
   where
-    by : (b : Bool) → isEvent (m .kind) ≡ b → writable (carries Uart) m ≡ true
+    by : (b : Bool) → isEvent (m .kind) ≡ b → writable (serialCarries Uart) m ≡ true
     by true q = rw q
     by false q = rw (q, t)
 read-writable Rs485 m h t = writable-plain m (has-plain (m .kind) h) t

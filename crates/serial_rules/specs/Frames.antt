@@ -155,9 +155,9 @@ frameRead l b =
     (started l (startRow l (getD b 1 0)) (drop 2 b))
 
 -- 9: an event on RS485; a nack that is "not told" on both.
-abbrev pub carries : SerialLink → Carries
-carries Uart = record { events = true; errors = true }
-carries Rs485 = record { events = false; errors = true }
+abbrev pub serialCarries : SerialLink → Carries
+serialCarries Uart = record { events = true; errors = true }
+serialCarries Rs485 = record { events = false; errors = true }
 
 -- "A frame is ESC, a start byte, the ID, on RS485 source and destination, then data, then ESC 0xFF."
 unfoldable pub frameBytes : SerialLink → Message → List ℕ → List ℕ
@@ -170,4 +170,4 @@ checkedFrame l m p = after (require (sourceLegal l (m .source)) 7 passed) (writt
 
 -- "Refusal numbers", writing: 9, 5, 6, 7.
 unfoldable pub frameWrite : SerialLink → Message → List ℕ → Answer Unit (List ℕ)
-frameWrite l m p = after (writeChecks (carries l) m (length p)) (checkedFrame l m p)
+frameWrite l m p = after (writeChecks (serialCarries l) m (length p)) (checkedFrame l m p)

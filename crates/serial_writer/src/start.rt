@@ -1,6 +1,6 @@
 // The start byte of a written frame, and what its link carries.
 ghost use mathlib.Core.Path.{_≡_};
-ghost use Rattle.serial_rules.specs.Frames.{startByte, rowOf, carries};
+ghost use Rattle.serial_rules.specs.Frames.{startByte, rowOf, serialCarries};
 use message_rules::Carries;
 use message_rules::Kind;
 use serial_fields::Rs485;
@@ -42,8 +42,8 @@ pub(crate) fn row_of(kind: Kind) -> StartRow
     }
 }
 
-pub(crate) fn carries(link: SerialLink) -> Carries
-    ensures { λ r. ⌜ r ≡ carries link ⌝ }
+pub(crate) fn serial_carries(link: SerialLink) -> Carries
+    ensures { λ r. ⌜ r ≡ serialCarries link ⌝ }
 {
     match link {
         SerialLink::Uart => Carries {

@@ -13,8 +13,8 @@ use crate::double::doubled_length;
 use crate::double::put;
 use crate::front::fields_length;
 use crate::front::put_fields;
-use crate::start::carries;
 use crate::start::row_of;
+use crate::start::serial_carries;
 use crate::start::start_byte;
 use message_rules::Message;
 use message_rules::Refusal;
@@ -30,7 +30,7 @@ pub fn write(link: SerialLink, message: Message, payload: &[u8], out: &mut [u8])
     ensures { λ r. ⌜ writeResult r ≡ counted (within (now (out .entry)) (frameWrite link message (now (payload .entry)))) ⌝ }
     ensures { λ _. ⌜ now (out .exit) ≡ outputAfter (within (now (out .entry)) (frameWrite link message (now (payload .entry)))) (now (out .entry)) ⌝ }
 {
-    match message_checks::check_written(carries(link), message, payload.len()) {
+    match message_checks::check_written(serial_carries(link), message, payload.len()) {
         Verdict::Refused(refusal) => WriteAnswer::Refused(refusal),
         Verdict::Passed => write_checked(link, message, payload, out),
     }
@@ -65,7 +65,7 @@ fn error_bytes_length(link: SerialLink, message: Message) -> usize
     ensures { λ r. ⌜ (r ≡ length (doubled (errorBytes message))) × (r ≤ 4) ⌝ }
 {
     let kind = message.kind;
-    let tells = message_fields::error_length(kind);
+    let tells = message_kinds::error_length(kind);
     if tells == 0 {
         return 0;
     }
@@ -102,7 +102,7 @@ fn put_error(link: SerialLink, message: Message, out: &mut [u8], at: usize) -> u
     ensures { λ _. ⌜ now (out .exit) ≡ sets (now (out .entry)) at (doubled (errorBytes message)) ⌝ }
 {
     let kind = message.kind;
-    let tells = message_fields::error_length(kind);
+    let tells = message_kinds::error_length(kind);
     if tells == 0 {
         return at;
     }

@@ -5,7 +5,7 @@ use mathlib.Core.Bool.{true, false}
 use mathlib.Core.List.{List, [], _∷_}
 use lib.ListN.{length}
 use mathlib.Core.Path.{_≡_, refl, _∙_}
-use Rattle.message_rules.specs.Answer.{Answer, refused, given, number, passed, failed, within, verdictResult}
+use Rattle.message_rules.specs.Answer.{Answer, refused, given, refusalNumber, passed, failed, within, verdictResult}
 use Rattle.message_rules.specs.declared.Refusal.{Refusal}
 use Rattle.message_rules.specs.declared.Verdict.the-variants.{Passed, Refused}
 use Rattle.device_rules.specs.Answers.{afterReceive}
@@ -33,7 +33,7 @@ module _ (r : Rounded) (store file : List ℕ) (w : World Sender) (c : Call) (h 
   goes-on e k = record { refusal = rw e (k .refusal); device = rw e (k .device); sender = rw e (k .sender); store = rw e (k .store) }
 
   -- and one that is refused.
-  pub ends-here : (f : Refusal) → callCheck (sending file) w c ≡ failed (number f) → Stopped r (w .device) (w .requester) f → store ≡ w .store → Ends r store file w (c ∷ h)
+  pub ends-here : (f : Refusal) → callCheck (sending file) w c ≡ failed (refusalNumber f) → Stopped r (w .device) (w .requester) f → store ≡ w .store → Ends r store file w (c ∷ h)
   unfolding made firstRefusal choose verdictResult
   ends-here f e k t = record { refusal = rw (e, k .verdict); device = rw e (k .device); sender = rw e (k .sender); store = rw e t }
 
@@ -70,7 +70,7 @@ module _ (r : Rounded) (d : Device) (store : List ℕ) (s : Sender) (file rq : L
   lost-ends e h = heard-next e [] h
 
   -- A refused arrival ends it.
-  pub stopped-ends : (f : Refusal) → reply ≡ refused (number f) → Stopped r (afterReceive d reply) s f → (h : List Call) → Ends r store file there (arrival ∷ h)
+  pub stopped-ends : (f : Refusal) → reply ≡ refused (refusalNumber f) → Stopped r (afterReceive d reply) s f → (h : List Call) → Ends r store file there (arrival ∷ h)
   unfolding callCheck answerCheck lent afterReceive
   stopped-ends f e k h = ends-here r store file there arrival h f (rw e) (rw e at k) refl
 
@@ -119,7 +119,7 @@ module _ (r : Rounded) (d : Device) (store : List ℕ) (s : Sender) (file : List
   requested-ended over a x e k =
       rw over (goes-on r store file before (asks shared output) [] (rw e) (record { refusal = rw (k .2); device = k .0; sender = k .1; store = refl }))
 
-  pub requested-stopped : (g : Refusal) → within output (request s file) ≡ refused (number g) → Stopped r d s g → Requested r d s f file store
+  pub requested-stopped : (g : Refusal) → within output (request s file) ≡ refused (refusalNumber g) → Stopped r d s g → Requested r d s f file store
   unfolding requested callCheck answerCheck lent
   requested-stopped g e k = ends-here r store file before (asks shared output) _ g (rw e) k refl
 
@@ -133,7 +133,7 @@ module _ (r : Rounded) (d : Device) (store : List ℕ) (s : Sender) (file : List
   unfolding callCheck does lent kept
   worked-ends e next n k = rw left-is (goes-on r _ file (nothingSent d store s) (works shared) _ e (rw (n, left-is) at k))
 
-  pub worked-stopped : (g : Refusal) → work d (length store) ≡ refused (number g) → Stopped r (afterWork d (work d (length store))) s g → Ends r left file (nothingSent d store s) calls
+  pub worked-stopped : (g : Refusal) → work d (length store) ≡ refused (refusalNumber g) → Stopped r (afterWork d (work d (length store))) s g → Ends r left file (nothingSent d store s) calls
   unfolding callCheck answerCheck lent storeAfter afterWork
   worked-stopped g e k = ends-here r left file (nothingSent d store s) (works shared) _ g (rw e) (rw e at k) (left-is ∙ rw e)
 

@@ -7,7 +7,7 @@ use native.Mathlib.Omega.{arith}
 use lib.Dec.{leb}
 use lib.ListN.{length, take}
 use Rattle.message_rules.proofs.Answers.{counted-refused, counted-given, counted-empty}
-use Rattle.message_rules.specs.Answer.{Answer, Check, refused, given, number, passed, failed, require, after, within, counted, outputAfter, about, verdictResult}
+use Rattle.message_rules.specs.Answer.{Answer, Check, refused, given, refusalNumber, passed, failed, require, after, within, counted, outputAfter, about, verdictResult}
 use Rattle.message_rules.specs.declared.Refusal.{Refusal}
 use Rattle.message_rules.specs.declared.Verdict.{Verdict}
 use Rattle.message_rules.specs.declared.Verdict.the-variants as Verdict·of
@@ -66,9 +66,9 @@ module _ (d : Device) (n : ℕ) (rq : List ℕ) (o : Outcome) (next : Device) (r
   unfolding receiveResult
   was-silent e = counted-empty _ (silent next) (rw e at (sym result))
 
-  pub was-refused : (f : Refusal) → o ≡ Outcome·of.Refused f → within output (receive d n rq) ≡ refused (number f)
+  pub was-refused : (f : Refusal) → o ≡ Outcome·of.Refused f → within output (receive d n rq) ≡ refused (refusalNumber f)
   unfolding receiveResult
-  was-refused f e = counted-refused _ (number f) (rw e at (sym result))
+  was-refused f e = counted-refused _ (refusalNumber f) (rw e at (sym result))
 
 -- Whether it was refused.
 pub outcome-check : (x : Answer Reply (List ℕ)) (o : Outcome) (next : Device) → receiveResult o next ≡ counted x → outcomeCheck o ≡ answerCheck x
@@ -94,9 +94,9 @@ module _ (s : Sender) (file : List ℕ) (o : RequestAnswer) (result : requestRes
   unfolding requestResult
   wrote-nothing e = counted-empty _ nothing (rw e at (sym result))
 
-  pub not-written : (f : Refusal) → o ≡ RequestAnswer·of.Refused f → within output (request s file) ≡ refused (number f)
+  pub not-written : (f : Refusal) → o ≡ RequestAnswer·of.Refused f → within output (request s file) ≡ refused (refusalNumber f)
   unfolding requestResult
-  not-written f e = counted-refused _ (number f) (rw e at (sym result))
+  not-written f e = counted-refused _ (refusalNumber f) (rw e at (sym result))
 
 -- What a verdict says of the answer that it is about.
 module _ {A B : Type 0} (x : Answer A B) (v : Verdict) (result : verdictResult v ≡ answerCheck x) where
@@ -104,11 +104,11 @@ module _ {A B : Type 0} (x : Answer A B) (v : Verdict) (result : verdictResult v
   unfolding verdictResult
   was-passed e = rw e at (sym result)
 
-  pub was-stopped : (f : Refusal) → v ≡ Verdict·of.Refused f → x ≡ refused (number f)
+  pub was-stopped : (f : Refusal) → v ≡ Verdict·of.Refused f → x ≡ refused (refusalNumber f)
   unfolding verdictResult answerCheck
   was-stopped f e = by x refl
     where
-      by : (y : Answer A B) → x ≡ y → x ≡ refused (number f)
+      by : (y : Answer A B) → x ≡ y → x ≡ refused (refusalNumber f)
       by (refused n) q = q ∙ cc (rw (e, q) at result)
       by (given a b) q = absurd (let z : _≡_ {A = ℕ} 0 1 = cc (rw (e, q) at result) in omega arith)
 

@@ -3,7 +3,7 @@ use Prim.Native.Nat.{ℕ}
 use mathlib.Core.List.{List, []}
 use mathlib.Core.Path.{_≡_}
 use lib.ListN.{length}
-use Rattle.message_rules.specs.Answer.{Answer, Check, number, passed, failed, within, verdictResult}
+use Rattle.message_rules.specs.Answer.{Answer, Check, refusalNumber, passed, failed, within, verdictResult}
 use Rattle.message_rules.specs.declared.Refusal.{Refusal}
 use Rattle.message_rules.specs.declared.Verdict.the-variants.{Refused}
 use Rattle.device_rules.specs.Answers.{afterReceive}
@@ -53,7 +53,7 @@ pub record Arrived (r : UnitAnswer) (d : Device) (store request : List ℕ) : Ty
 unfoldable pub outcomeCheck : Outcome → Check
 outcomeCheck (Outcome·of.Answer n) = passed
 outcomeCheck Outcome·of.Silent = passed
-outcomeCheck (Outcome·of.Refused f) = failed (number f)
+outcomeCheck (Outcome·of.Refused f) = failed (refusalNumber f)
 
 -- after the sender's answer call,
 pub record Heard (r : Rounded) (d : Device) (s : Sender) (file answer : List ℕ) : Type 0 where

@@ -10,7 +10,7 @@ use lib.Dec.{ltb}
 use lib.ListN.{length}
 use Rattle.message_rules.proofs.Answers.{after-given}
 use Rattle.message_rules.specs.Answer.{Answer, refused, given, passed, require, about}
-use Rattle.message_rules.proofs.Checks.{require-passed, both-true}
+use Rattle.message_rules.proofs.Checks.{require-passed, both-true, both-false}
 use Rattle.little_endian_rules.specs.LittleEndian.{fromBytes}
 use Rattle.file_rules.specs.File.{sizeLegal, frameCount}
 use Rattle.link_rules.specs.declared.Link.{Link}
@@ -34,7 +34,7 @@ use Rattle.round_rules.proofs.Counting.{tally-begins}
 use Rattle.upload_rules.proofs.Exchange.{Addressed}
 use Rattle.sender_rules.proofs.Sizes.{count-legal}
 use Rattle.upload_rules.proofs.Files.{store-first}
-use Rattle.device_rules.proofs.Faults.{transferAt}
+use Rattle.device_rules.proofs.Faults.{fault-none, transferAt}
 use Rattle.round_rules.proofs.Steady.{runs}
 use Rattle.upload_rules.proofs.Table.{Upload, free, markOf, RunsOrEnded}
 
@@ -49,16 +49,6 @@ addresses Rs485 s t own h e =
 addresses Can s t own h e = tt
 addresses Csp s t own h e = tt
 
--- A command without a fault passed every test.
-fault-none : (e : ℕ) (b : Bool) (rest : Fault) → fault e b rest ≡ None → (b ≡ false) × (rest ≡ None)
-unfolding fault
-fault-none e true rest h = absurd (let z : _≡_ {A = ℕ} 0 1 = cc in omega arith)
-fault-none e false rest h = (refl, h)
-
-neither : (a b : Bool) → a || b ≡ false → (a ≡ false) × (b ≡ false)
-neither false b e = (refl, e)
-neither true b e = absurd (let z : _≡_ {A = ℕ} 0 1 = cc in omega arith)
-
 setup-passed : (t : Transfer) (store : ℕ) (p : List ℕ) → setupFault t store p ≡ None → fromBytes p ≤ store
 unfolding setupFault
 setup-passed t store p e =
@@ -66,7 +56,7 @@ setup-passed t store p e =
     let six = fault-none 6 (t .pending) _ (two .1) in
     let seven = fault-none 7 _ _ (six .1) in
     let three = fault-none 3 _ None (seven .1) in
-    ltb-false store (fromBytes p) (neither (not (sizeLegal (fromBytes p))) _ (three .0) .1)
+    ltb-false store (fromBytes p) (both-false (not (sizeLegal (fromBytes p))) _ (three .0) .1)
 
 -- The unit that answered the setup.
 answered-given : (d d′ : Device) (x : Answer Unit (List ℕ)) (b : List ℕ) → about (answers d) x ≡ given (answers d′) b → d ≡ d′

@@ -16,7 +16,7 @@ use Rattle.message_rules.specs.declared.Message.{Message}
 use Rattle.link_rules.specs.Link.{carriesAddresses, linkCarried}
 use Rattle.link_rules.specs.declared.Link.{Link}
 use Rattle.link_rules.specs.declared.Link.the-variants.{Uart, Rs485, Can, Csp}
-use Rattle.link_rules.proofs.Laws.{Legal}
+use Rattle.link_rules.proofs.Laws.{LegalMessage}
 use Rattle.link_rules.proofs.RoundTrip.{Arrives, legal-arrives}
 use Rattle.device_rules.specs.Receive.{isTaken, answerSource}
 use Rattle.sender_rules.specs.Sender.{requestKind, requestId}
@@ -51,13 +51,13 @@ pub record Plain (m : Message) (p : List ℕ) : Type 0 where
   pub tells : errorTold (m .kind) (m .error) ≡ true
   pub fields : fieldChecks m (payloadLegal (m .kind) (length p)) ≡ passed
 
-request-legal : (l : Link) (s t own id : ℕ) (k : Kind) (p : List ℕ) → Addressed l s t own → Plain (requestOf k id s t) p → Legal l (requestOf k id s t) p
+request-legal : (l : Link) (s t own id : ℕ) (k : Kind) (p : List ℕ) → Addressed l s t own → Plain (requestOf k id s t) p → LegalMessage l (requestOf k id s t) p
 request-legal Uart s t own id k p a h = record { plain = h .plain; tells = h .tells; fields = h .fields; source = tt }
 request-legal Rs485 s t own id k p a h = record { plain = h .plain; tells = h .tells; fields = h .fields; source = a .0 }
 request-legal Can s t own id k p a h = record { plain = h .plain; tells = h .tells; fields = h .fields; source = tt }
 request-legal Csp s t own id k p a h = record { plain = h .plain; tells = h .tells; fields = h .fields; source = tt }
 
-answer-legal : (l : Link) (s t own : ℕ) (m : Message) (k : Kind) (e i : ℕ) (p : List ℕ) → Addressed l s t own → Plain (answerOf l own m k e i) p → Legal l (answerOf l own m k e i) p
+answer-legal : (l : Link) (s t own : ℕ) (m : Message) (k : Kind) (e i : ℕ) (p : List ℕ) → Addressed l s t own → Plain (answerOf l own m k e i) p → LegalMessage l (answerOf l own m k e i) p
 unfolding answerSource
 answer-legal Uart s t own m k e i p a h = record { plain = h .plain; tells = h .tells; fields = h .fields; source = tt }
 answer-legal Rs485 s t own m k e i p a h = record { plain = h .plain; tells = h .tells; fields = h .fields; source = a .1 }

@@ -19,7 +19,7 @@ use Rattle.file_rules.specs.File.{frameCount, fileFrame}
 use Rattle.link_rules.specs.Link.{linkCarried, linkRead, linkWrite}
 use Rattle.link_rules.specs.declared.Link.{Link}
 use Rattle.link_rules.proofs.RoundTrip.{Underway, id-arrives}
-use Rattle.device_rules.specs.Device.{isFinished, frame, emptyBuffer, withTransfer}
+use Rattle.device_rules.specs.Device.{isFinished, bufferedFrame, emptyBuffer, withTransfer}
 use Rattle.device_rules.specs.declared.Device.{Device}
 use Rattle.device_rules.specs.declared.Phase.the-variants.{Open, Finished}
 use Rattle.device_rules.specs.Commands.{takeDone, frameDone, transferDone, commandDone, afterCommand}
@@ -114,7 +114,7 @@ module _ (d : Device) (s t : ℕ) (a : Addressed (d .link) s t (d .own)) (file :
     -- B: frame info tells the size and the checksum of the frame in the buffer.
     pub served-compare : (p : List ℕ) → linkRead l b ≡ given (asked Compare) p → take buffered buffer ≡ fileFrame file i → length (fileFrame file i) ≤ 256
         → Served file (sender Compare) (unit i buffer buffered false) store b (unit i buffer buffered false) Forward
-    unfolding linkCarried carriedOn kindReply telemetryReply answerTo errorTold fieldChecks idLegal payloadLegal errorLegal inside require infoBytes frame kindMeaning infoMeaning
+    unfolding linkCarried carriedOn kindReply telemetryReply answerTo errorTold fieldChecks idLegal payloadLegal errorLegal inside require infoBytes bufferedFrame kindMeaning infoMeaning
     served-compare p reads loaded most =
         served Compare since rounds b p reads i buffer buffered false _ TelemetryResponse 0 (infoBytes (transferAt n i buffer buffered false)) Forward refl
         (record { plain = refl; tells = refl; fields = rw (info-length _ _ _ _) })
@@ -141,7 +141,7 @@ module _ (d : Device) (s t : ℕ) (a : Addressed (d .link) s t (d .own)) (file :
 
     -- D: while it is pending frame info tells the number before it,
     pub served-waiting : (p : List ℕ) → linkRead l b ≡ given (asked Confirm) p → i < 65535 → Served file (sender Confirm) (unit i buffer buffered true) store b (unit i buffer buffered true) Stay
-    unfolding linkCarried carriedOn kindReply telemetryReply answerTo errorTold fieldChecks idLegal payloadLegal errorLegal inside require infoBytes frame kindMeaning infoMeaning
+    unfolding linkCarried carriedOn kindReply telemetryReply answerTo errorTold fieldChecks idLegal payloadLegal errorLegal inside require infoBytes bufferedFrame kindMeaning infoMeaning
     served-waiting p reads small =
         served Confirm since rounds b p reads i buffer buffered true _ TelemetryResponse 0 (infoBytes (transferAt n i buffer buffered true)) Stay refl
         (record { plain = refl; tells = refl; fields = rw (info-length _ _ _ _) })
@@ -149,7 +149,7 @@ module _ (d : Device) (s t : ℕ) (a : Addressed (d .link) s t (d .own)) (file :
 
     -- and once it is stored its own.
     pub served-confirmed : (p : List ℕ) → linkRead l b ≡ given (asked Confirm) p → i < 65535 → Served file (sender Confirm) (unit (i + 1) buffer buffered false) store b (unit (i + 1) buffer buffered false) Forward
-    unfolding linkCarried carriedOn kindReply telemetryReply answerTo errorTold fieldChecks idLegal payloadLegal errorLegal inside require infoBytes frame kindMeaning infoMeaning
+    unfolding linkCarried carriedOn kindReply telemetryReply answerTo errorTold fieldChecks idLegal payloadLegal errorLegal inside require infoBytes bufferedFrame kindMeaning infoMeaning
     served-confirmed p reads small =
         served Confirm since rounds b p reads (i + 1) buffer buffered false _ TelemetryResponse 0 (infoBytes (transferAt n (i + 1) buffer buffered false)) Forward refl
         (record { plain = refl; tells = refl; fields = rw (info-length _ _ _ _) })

@@ -10,7 +10,7 @@ use lib.Dec.{ltb, eqb}
 use lib.ListN.{length, take, take-append-drop}
 use Rattle.message_rules.specs.Answer.{given, require, after}
 use Rattle.file_rules.specs.File.{fileFrame}
-use Rattle.device_rules.specs.Device.{frame, emptyBuffer}
+use Rattle.device_rules.specs.Device.{bufferedFrame, emptyBuffer}
 use Rattle.device_rules.specs.declared.Device.{Device}
 use Rattle.device_rules.specs.Work.{frameStored, hasRoom, work, storeAfter, afterWork}
 use Rattle.sender_rules.specs.declared.Stage.{Stage}
@@ -76,7 +76,7 @@ module _ (u : Upload) where
   -- The work step of a unit with frame i pending.
   work-stores : (i : ℕ) (buffer : List ℕ) (buffered store : ℕ) → i < frames u → take buffered buffer ≡ fileFrame (u .file) i → length (u .file) ≤ store
       → work (unitAt u i buffer buffered true) store ≡ given (unitAt u (i + 1) emptyBuffer 0 false) (fileFrame (u .file) i)
-  unfolding work hasRoom frameStored frame require after
+  unfolding work hasRoom frameStored bufferedFrame require after
   work-stores i buffer buffered store h content room =
       let next : ((i + 65535) % 65536 + 1) % 65536 ≡ (i + 1 + 65535) % 65536 = omega arith in
       let n = length (u .file) in

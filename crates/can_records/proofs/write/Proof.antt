@@ -71,12 +71,13 @@ use Rattle.can_records.proofs.plan.decide as decide
 use Rattle.can_records.proofs.plan.decide.Symbol as decide-def
 use Rattle.can_records.proofs.plan.decide.Symbol.{name as #decide}
 use Rattle.can_records.proofs.plan.decide.Met as decide-thm
-use Rattle.can_records.specs.Records.{recordOf, recordsOf, recordsWrite, fitting}
-use Rattle.can_records.specs.declared.CanFrame.{CanFrame}
-use Rattle.can_records.proofs.Filling.{record-front, bytes-length, Decided, decided, filledTo, filled-length, filled-turn, filled-end}
-use Rattle.can_records.proofs.Row.{say-both, cells-apart, cells-join, array-in, array-out}
-use Rattle.can_records.proofs.CanFrame as F
-use Rattle.can_records.proofs.CanFrame.Laws as F′
+use Rattle.can_rules.specs.Records.{recordOf, recordsOf, recordsWrite, fitting}
+use Rattle.can_rules.specs.declared.CanFrame.{CanFrame}
+use Rattle.can_rules.proofs.Records.{record-front, filledTo, filled-length, filled-turn}
+use Rattle.can_records.proofs.Filling.{bytes-length, Decided, decided, filled-end}
+use Rattle.can_records.proofs.Arrays.{say-both, cells-apart, cells-join, array-in, array-out}
+use Rattle.can_rules.proofs.CanFrame as F
+use Rattle.can_rules.proofs.CanFrame.Laws as F′
 use Rattle.can_records.proofs.record_of as record-of
 use Rattle.can_records.proofs.record_of.Symbol as record-of-def
 use Rattle.can_records.proofs.record_of.Symbol.{name as #record-of}
@@ -282,7 +283,7 @@ module _ {M : Type 1} (𝓤 : URA M) (H : Heap 𝓤) (A : Atoms 𝓤) (W : Given
       unfolding afterTurn
       more i less =
           let h : i .0 < p .count = ltb-true (i .0) (p .count) less in
-          let small : i .0 < n = omega (arith, d .within) in
+          let small : i .0 < n = omega (arith, d .inside) in
           let fits : i .0 * 16 < 2 ^ 64 = omega (arith, g .1) in
           let next-fits : i .0 + 1 < 2 ^ 64 = omega (arith, g .0) in
           let in-row : i .0 < length (filling (i .0)) = rw (filled-length (p .bytes) xs (i .0) (omega arith)) small in
@@ -345,7 +346,7 @@ module _ {M : Type 1} (𝓤 : URA M) (H : Heap 𝓤) (A : Atoms 𝓤) (W : Given
       ends : (i : Upto) → ltb (i .0) (p .count) ≡ false → Sq W (At i) (runs C Λ En pieces.turn-1 (anyQ (Turned i)))
       unfolding afterTurn
       ends i over =
-          let h : i .0 ≤ n = omega (arith, i .1, d .within) in
+          let h : i .0 ≤ n = omega (arith, i .1, d .inside) in
           assigns ! (bin ! (load ! (from ! (stop !)) (look ! 31 refl)) (load ! (from ! (fld ! refl (stop !))) (look-in ! 34 (sub ! 1 refl (whole !)))) tt) (from ! (stop !)) (init ! 25 refl (tt, tt)) $
           rewrite ! 25 (λ (t : Bool). ‵ (fat fullShare tyBool l₉ 0 (vbool t))) over refl $ leaves-loop ! (load ! (from ! (stop !)) (look ! 25 refl)) $
           exec ! C Λ En pieces.t-6 (atRet En Post) $

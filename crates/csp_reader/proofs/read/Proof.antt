@@ -48,7 +48,9 @@ same-length c = search needs
 
 returns-3 : tie.Need-returns-3
 unfolding cspRead cspTyped require after
-returns-3 c = rw (le-leb _ _ (c .before .before .before .before .before .before .before .before .before .before .before .if1 .left), ← c .before .before .before .before .before .before .before .before .type-kind .ensures, c .before .before .before .before .before .before .kind .given .1) (rw part-from at (c .before .before .read-data .ensures))
+returns-3 c =
+    let typed = c .before .before .before .before .before .before .before .before in
+    rw (le-leb _ _ (typed .before .before .before .if1 .left), ← typed .type-kind .ensures, c .before .before .before .before .before .before .kind .given .1) (rw part-from at (c .before .before .read-data .ensures))
 
 pub read-spec : {M : Type 1} → statement M
 read-spec =

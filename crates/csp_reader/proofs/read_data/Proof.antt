@@ -3,7 +3,7 @@ use borrow.Author.Needs.{needs}
 use mathlib.Core.Path.{_≡_, refl}
 use denote.Ref.{now}
 use lib.ListN.{length}
-use Rattle.message_rules.specs.Answer.{failed, passed, number, verdictResult, readResult, within, counted, outputAfter}
+use Rattle.message_rules.specs.Answer.{failed, passed, refusalNumber, verdictResult, readResult, within, counted, outputAfter}
 use Rattle.message_rules.specs.Data.{dataMessage}
 use Rattle.message_rules.specs.Checks.{dataChecks}
 use Rattle.message_rules.specs.Kinds.{errorLength}
@@ -48,30 +48,32 @@ part-read-payload-end c = search needs
 read-payload-requires : tie.Need-read-payload-requires
 read-payload-requires c κs = search needs
 
+-- The message with what its kind carries is that of the definition.
+message-is : (k : tie.After-error-fields-carried)
+    → let a = k .before .before .before .before .before .args in k .error-fields-carried .result ≡ dataMessage (a .kind) (a .id) 0 0 (now (a .«data»))
+unfolding dataMessage
+message-is k = rw (← k .before .before .byte-or-zero .ensures, ← k .before .byte-or-zero2 .ensures) (k .error-fields-carried .ensures)
+
 returns : tie.Need-returns
-unfolding dataMessage verdictResult within counted outputAfter readResult
+unfolding verdictResult within counted outputAfter readResult
 returns c =
-    let a = c .before .before .before .before .before .before .before .before .before .args in
-    let m = c .before .before .before .before .error-fields-carried in
-    let same : m .result ≡ dataMessage (a .kind) (a .id) 0 0 (now (a .«data»)) =
-    rw (← c .before .before .before .before .before .before .byte-or-zero .ensures, ← c .before .before .before .before .before .byte-or-zero2 .ensures) (m .ensures) in
-    let refuses : dataChecks (dataMessage (a .kind) (a .id) 0 0 (now (a .«data»))) (length (now (a .«data»))) ≡ failed (number (c .before .refusal .given .0 .0)) =
-    rw (← same, ← c .before .before .before .check-data .ensures, c .before .refusal .given .1) in
+    let made = c .before .before .before .before in
+    let a = made .before .before .before .before .before .args in
+    let refuses : dataChecks (dataMessage (a .kind) (a .id) 0 0 (now (a .«data»))) (length (now (a .«data»))) ≡ failed (refusalNumber (c .before .refusal .given .0 .0)) =
+    rw (← message-is made, ← c .before .before .before .check-data .ensures, c .before .refusal .given .1) in
     rw (data-refused (a .kind) (a .id) 0 0 (now (a .«data»)) _ refuses) (refl, refl)
 
 same-length : tie.Need-same-length
 same-length c = search needs
 
 returns-2 : tie.Need-returns-2
-unfolding dataMessage verdictResult
+unfolding verdictResult
 returns-2 c =
-    let a = c .before .before .before .before .before .before .before .before .before .before .before .before .before .before .args in
-    let m = c .before .before .before .before .before .before .before .before .before .error-fields-carried in
-    let same : m .result ≡ dataMessage (a .kind) (a .id) 0 0 (now (a .«data»)) =
-    rw (← c .before .before .before .before .before .before .before .before .before .before .before .byte-or-zero .ensures, ← c .before .before .before .before .before .before .before .before .before .before .byte-or-zero2 .ensures) (m .ensures) in
+    let made = c .before .before .before .before .before .before .before .before .before in
+    let a = made .before .before .before .before .before .args in
     let passes : dataChecks (dataMessage (a .kind) (a .id) 0 0 (now (a .«data»))) (length (now (a .«data»))) ≡ passed =
-    rw (← same, ← c .before .before .before .before .before .before .before .before .check-data .ensures, c .before .before .before .before .before .before .enum-told .given .1) in
-    rw (data-given (a .kind) (a .id) 0 0 (now (a .«data»)) passes, ← same, ← c .before .before .before .before .before .error-length .ensures)
+    rw (← message-is made, ← c .before .before .before .before .before .before .before .before .check-data .ensures, c .before .before .before .before .before .before .enum-told .given .1) in
+    rw (data-given (a .kind) (a .id) 0 0 (now (a .«data»)) passes, ← message-is made, ← c .before .before .before .before .before .error-length .ensures)
     (rw part-from at (c .before .before .read-payload .ensures))
 
 pub read-data-spec : {M : Type 1} → statement M

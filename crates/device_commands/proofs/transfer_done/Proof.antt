@@ -40,8 +40,10 @@ no-transfer-requires c κs = search needs
 returns : tie.Need-returns
 unfolding transferDone
 returns c =
-    let size = c .before .u32-from-bytes .ensures ∙ ap fromBytes (four-bytes (now (c .before .before .before .before .before .before .before .before .args .payload)) (c .before .before .before .before .before .before .before .before .pre .0 (c .before .before .before .before .before .before .match .keys1))) in
-    rw (c .before .before .before .before .before .before .match .keys1, ← size) (c .new-transfer .ensures)
+    let found = c .before .before .before .before .before .before in
+    let entry = found .before .before in
+    let size = c .before .u32-from-bytes .ensures ∙ ap fromBytes (four-bytes (now (entry .args .payload)) (entry .pre .0 (found .match .keys1))) in
+    rw (found .match .keys1, ← size) (c .new-transfer .ensures)
 
 returns-2 : tie.Need-returns-2
 unfolding transferDone

@@ -4,8 +4,8 @@ use borrow.Author.Needs.{needs}
 use Rattle.device_work.proofs.frame_stored.Statement.{statement}
 use Rattle.device_work.proofs.frame_stored.Tie as tie
 
-frame-length-requires : tie.Need-frame-length-requires
-frame-length-requires c κs = search needs
+buffered-length-requires : tie.Need-buffered-length-requires
+buffered-length-requires c κs = search needs
 
 cast-stored : tie.Need-cast-stored
 cast-stored c = search needs
@@ -21,13 +21,13 @@ wrapping-add-u16-requires c κs = search needs
 
 returns : tie.Need-returns
 unfolding frameStored
-returns c = rw (c .before .phase-after .ensures, c .wrapping-add-u16 .ensures, c .before .before .before .frame-length .ensures)
+returns c = rw (c .before .phase-after .ensures, c .wrapping-add-u16 .ensures, c .before .before .before .buffered-length .ensures)
 
 pub frame-stored-spec : {M : Type 1} → statement M
 frame-stored-spec =
     tie.close
     (tie.spec
-    frame-length-requires
+    buffered-length-requires
     cast-stored
     add-stored
     phase-after-requires

@@ -17,16 +17,16 @@ returns c = rw (lt-leb _ _ (c .if1 .taken))
 cast-result : tie.Need-cast-result
 cast-result c = search needs
 
-frame-length-requires : tie.Need-frame-length-requires
-frame-length-requires c κs = search needs
+buffered-length-requires : tie.Need-buffered-length-requires
+buffered-length-requires c κs = search needs
 
 add-result : tie.Need-add-result
-add-result c = omega (arith, c .frame-length .ensures, frame-most (c .before .before .before .before .args .transfer) (c .before .before .before .before .good .0), c .before .struct-known2 .given)
+add-result c = omega (arith, c .buffered-length .ensures, frame-most (c .before .before .before .before .args .transfer) (c .before .before .before .before .good .0), c .before .struct-known2 .given)
 
 returns-2 : tie.Need-returns-2
 unfolding hasRoom
-returns-2 c = rw (le-leb _ _ (c .before .before .if1 .left), ← c .frame-length .ensures)
+returns-2 c = rw (le-leb _ _ (c .before .before .if1 .left), ← c .buffered-length .ensures)
 
 pub has-room-spec : {M : Type 1} → statement M
 has-room-spec =
-    tie.close (tie.spec cast-size returns cast-result frame-length-requires add-result returns-2)
+    tie.close (tie.spec cast-size returns cast-result buffered-length-requires add-result returns-2)

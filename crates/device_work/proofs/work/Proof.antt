@@ -43,11 +43,11 @@ starts c = omega (arith, room (unit c) (lent c) (roomy c))
 cast-at : tie.Need-cast-at
 cast-at c = search needs
 
-frame-length-requires : tie.Need-frame-length-requires
-frame-length-requires c κs = search needs
+buffered-length-requires : tie.Need-buffered-length-requires
+buffered-length-requires c κs = search needs
 
 array-share-prefix-buffer : tie.Need-array-share-prefix-buffer
-array-share-prefix-buffer c = rw (c .before .frame-length .ensures) (frame-within _)
+array-share-prefix-buffer c = rw (c .before .buffered-length .ensures) (frame-within _)
 
 slice-aggregate-put : tie.Need-slice-aggregate-put
 slice-aggregate-put c = sym (length-take-le _ _ (array-share-prefix-buffer (c .before)))
@@ -75,7 +75,7 @@ same-length c = search needs
 returns-3 : tie.Need-returns-3
 returns-3 c =
     let tested = c .before .before .before .before .before .before .before .before .before in
-    let e = rw (part-from, c .before .before .before .before .before .before .before .frame-length .ensures, frame-of-buffer (unit tested .transfer)) at (c .before .before .before .put .ensures) in
+    let e = rw (part-from, c .before .before .before .before .before .before .before .buffered-length .ensures, frame-of-buffer (unit tested .transfer)) at (c .before .before .before .put .ensures) in
     rw (put-from _ _ _ (starts tested), c .frame-stored .ensures) (stored-gives _ _ _ (not-false _ (tested .before .before .if1 .left)) (roomy tested) (e .1))
 
 pub work-spec : {M : Type 1} → statement M
@@ -86,7 +86,7 @@ work-spec =
     has-room-requires
     returns-2
     cast-at
-    frame-length-requires
+    buffered-length-requires
     array-share-prefix-buffer
     slice-aggregate-put
     sub-put

@@ -60,7 +60,7 @@ part-put-end : tie.Need-part-put-end Inv-loop μ-loop
 part-put-end c = let t = store-step _ _ _ _ _ _ (c .before .before .loop .inv .1) (c .before .loop-test .taken) in omega arith
 
 sub-put-2 : tie.Need-sub-put-2 Inv-loop μ-loop
-sub-put-2 c = let t = store-step _ _ _ _ _ _ (c .before .before .before .loop .inv .1) (c .before .before .loop-test .taken) in omega (arith, t .within, c .before .before .before .loop .inv .0, c .before .before .before .before .before .before .pre .2)
+sub-put-2 c = let t = store-step _ _ _ _ _ _ (c .before .before .before .loop .inv .1) (c .before .before .loop-test .taken) in omega (arith, t .inside, c .before .before .before .loop .inv .0, c .before .before .before .before .before .before .pre .2)
 
 part-put-start-2 : tie.Need-part-put-start-2 Inv-loop μ-loop
 part-put-start-2 = sub-put-2
@@ -87,7 +87,7 @@ loop-again c =
     let b = now (s .args .bytes) in
     let d = take (getD b (l .at + 4) 0 - 1) (drop (l .at + 5) b) in
     let t = store-step _ _ _ _ _ _ (c .before .before .before .before .before .before .before .loop .inv .1) (c .before .before .before .before .before .before .loop-test .taken) in
-    let room : l .to + length d ≤ length (l .out) = omega (arith, t .taken, t .within, l .inv .0, s .pre .2) in
+    let room : l .to + length d ≤ length (l .out) = omega (arith, t .taken, t .inside, l .inv .0, s .pre .2) in
     let stored = put-part d (l .out) _ (l .to) room (rw add-sub-cancel-left at (c .before .before .put .ensures .1)) in
     rw stored (length-sets (l .out) (l .to) d ∙ l .inv .0, t .next)
 

@@ -9,7 +9,7 @@ use lib.ListN.{length, drop, length-drop}
 use lib.Seq.{length-take-le}
 use Rattle.message_rules.specs.Answer.{verdictResult}
 use Rattle.can_scan.specs.Measured.{framesResult}
-use Rattle.can_scan.proofs.Scanning.{told-passed, Ahead, ahead-first, ahead-cut, ahead-failed, ahead-passed, ahead-done}
+use Rattle.can_scan.proofs.Scanning.{result-passed, Ahead, ahead-first, ahead-cut, ahead-failed, ahead-passed, ahead-done}
 use Rattle.can_scan.proofs.scanner.scan_series.Statement.{statement}
 use Rattle.can_scan.proofs.scanner.scan_series.Tie as tie
 
@@ -86,12 +86,12 @@ cast-size : tie.Need-cast-size Inv-loop μ-loop
 cast-size c = omega (arith, c .shared-slice-known3 .given (c .before .before .before .before .before .before .before .loop .at + 4))
 
 sub-size : tie.Need-sub-size Inv-loop μ-loop
-sub-size c = told-passed _ _ _ (c .before .before .before .before .before .before .before .loop .at) _ (c .before .before .before .later-checks .ensures) (c .before .enum-told .given .1) .1
+sub-size c = result-passed _ _ _ (c .before .before .before .before .before .before .before .loop .at) _ (c .before .before .before .later-checks .ensures) (c .before .enum-told .given .1) .1
 
 add-size-2 : tie.Need-add-size-2 Inv-loop μ-loop
 add-size-2 c =
     let l = c .before .before .before .before .before .before .before .loop in
-    let t = told-passed _ _ _ (l .at) _ (c .before .before .before .later-checks .ensures) (c .before .enum-told .given .1) in
+    let t = result-passed _ _ _ (l .at) _ (c .before .before .before .later-checks .ensures) (c .before .enum-told .given .1) in
     omega (arith, t .1, t .2, l .inv .0, l .inv .1, c .before .before .before .before .before .if1 .left)
 
 add-at : tie.Need-add-at Inv-loop μ-loop
@@ -103,7 +103,7 @@ loop-less c = search needs
 loop-again : tie.Need-loop-again Inv-loop μ-loop
 loop-again c =
     let l = c .before .before .before .before .before .before .before .loop in
-    let t = told-passed _ _ _ (l .at) _ (c .before .before .before .later-checks .ensures) (c .before .enum-told .given .1) in
+    let t = result-passed _ _ _ (l .at) _ (c .before .before .before .later-checks .ensures) (c .before .enum-told .given .1) in
     (omega (arith, l .inv .0, c .before .before .before .before .before .if1 .left), omega (arith, t .1, t .2, l .inv .1), ahead-passed _ (l .at) (l .size) (l .left) (l .left - 1) (omega arith) (l .inv .2) (c .before .before .before .before .before .if1 .left) (t .0))
 
 sub-rest : tie.Need-sub-rest Inv-loop μ-loop

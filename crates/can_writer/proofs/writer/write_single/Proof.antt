@@ -4,13 +4,13 @@ use mathlib.Core.Path.{_≡_}
 use denote.Ref.{now}
 use lib.ListN.{length}
 use Rattle.message_rules.specs.Kinds.{typeNumber}
-use Rattle.can_rules.specs.Can.{identifier, frame}
+use Rattle.can_rules.specs.Can.{identifier, canFrame}
 use Rattle.can_rules.proofs.Lengths.{identifier-length, frame-length}
 use Rattle.can_writer.proofs.Writing.{refused-short, given-stored}
 use Rattle.can_writer.proofs.writer.write_single.Statement.{statement}
 use Rattle.can_writer.proofs.writer.write_single.Tie as tie
 
-size : (c : tie.Start) → length (frame (identifier (typeNumber (c .args .message .kind)) (c .args .message)) (now (c .args .payload))) ≡ 13
+size : (c : tie.Start) → length (canFrame (identifier (typeNumber (c .args .message .kind)) (c .args .message)) (now (c .args .payload))) ≡ 13
 size c = frame-length _ (identifier-length _ (c .args .message)) (now (c .args .payload)) (c .pre)
 
 returns : tie.Need-returns

@@ -9,20 +9,20 @@ use borrow.Author.Needs.{needs}
 use Rattle.device.proofs.receiver.info_bytes.Statement.{statement}
 use Rattle.device.proofs.receiver.info_bytes.Tie as tie
 
-frame-length-requires : tie.Need-frame-length-requires
-frame-length-requires c κs = search needs
+buffered-length-requires : tie.Need-buffered-length-requires
+buffered-length-requires c κs = search needs
 
 u16-to-bytes-requires : tie.Need-u16-to-bytes-requires
 u16-to-bytes-requires c κs = search needs
 
 cast-u16-to-bytes : tie.Need-cast-u16-to-bytes
-cast-u16-to-bytes c = omega (arith, c .before .frame-length .ensures, frame-most (c .before .before .before .args .transfer) (c .before .before .before .good .0))
+cast-u16-to-bytes c = omega (arith, c .before .buffered-length .ensures, frame-most (c .before .before .before .args .transfer) (c .before .before .before .good .0))
 
 u16-to-bytes-requires-2 : tie.Need-u16-to-bytes-requires-2
 u16-to-bytes-requires-2 c κs = search needs
 
 array-share-prefix-buffer : tie.Need-array-share-prefix-buffer
-array-share-prefix-buffer c = rw (c .before .before .frame-length .ensures) (frame-within _)
+array-share-prefix-buffer c = rw (c .before .before .buffered-length .ensures) (frame-within _)
 
 slice-aggregate-checksum : tie.Need-slice-aggregate-checksum
 slice-aggregate-checksum c = sym (length-take-le _ _ (array-share-prefix-buffer (c .before)))
@@ -57,13 +57,15 @@ flags-requires c κs = search needs
 returns : tie.Need-returns
 unfolding infoBytes toBytes
 returns c =
-    rw (c .before .before .before .before .before .u16-to-bytes .ensures, c .before .before .before .before .u16-to-bytes2 .ensures, c .before .u16-to-bytes3 .ensures, c .before .before .checksum .ensures, c .before .before .before .before .before .before .frame-length .ensures, frame-of-buffer (c .before .before .before .before .before .before .before .before .args .transfer), c .flags .ensures)
+    let sized = c .before .before .before .before .before .before in
+    let entry = sized .before .before in
+    rw (c .before .before .before .before .before .u16-to-bytes .ensures, c .before .before .before .before .u16-to-bytes2 .ensures, c .before .u16-to-bytes3 .ensures, c .before .before .checksum .ensures, sized .buffered-length .ensures, frame-of-buffer (entry .args .transfer), c .flags .ensures)
 
 pub info-bytes-spec : {M : Type 1} → statement M
 info-bytes-spec =
     tie.close
     (tie.spec
-    frame-length-requires
+    buffered-length-requires
     u16-to-bytes-requires
     cast-u16-to-bytes
     u16-to-bytes-requires-2

@@ -8,8 +8,8 @@ use Rattle.device.proofs.receiver.reply.Tie as tie
 enum-told : tie.Need-enum-told
 enum-told c = search needs
 
-command-reply-requires : tie.Need-command-reply-requires
-command-reply-requires c κs = search needs
+telecommand-reply-requires : tie.Need-telecommand-reply-requires
+telecommand-reply-requires c κs = search needs
 
 enum-told-2 : tie.Need-enum-told-2
 enum-told-2 c = search needs
@@ -52,7 +52,7 @@ same-length c = search needs
 
 returns : tie.Need-returns
 unfolding kindReply
-returns c = equal-gives _ _ _ _ _ _ (by-kind _ _ _ _ _ _ (c .before .before .before .before .enum-told .given .1)) (c .before .before .command-reply .ensures)
+returns c = equal-gives _ _ _ _ _ _ (by-kind _ _ _ _ _ _ (c .before .before .before .before .enum-told .given .1)) (c .before .before .telecommand-reply .ensures)
 
 returns-2 : tie.Need-returns-2
 unfolding kindReply
@@ -86,7 +86,7 @@ reply-spec =
     tie.close
     (tie.spec
     enum-told
-    command-reply-requires
+    telecommand-reply-requires
     enum-told-2
     silence-requires
     enum-told-3

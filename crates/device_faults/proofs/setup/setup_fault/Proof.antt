@@ -48,20 +48,26 @@ size-legal-requires c κs = search needs
 returns-4 : tie.Need-returns-4
 unfolding setupFault fault
 returns-4 c =
-    let size = c .before .before .u32-from-bytes .ensures ∙ ap fromBytes (four-bytes (now (c .before .before .before .before .before .before .before .before .before .before .before .before .args .payload)) (c .before .before .before .before .before .before .before .before .before .before .if1 .left)) in
-    rw (eq-eqb _ _ (c .before .before .before .before .before .before .before .before .before .before .if1 .left), c .before .before .before .before .before .before .before .before .before .if2 .left, ← c .before .before .before .before .before .before .before .before .is-open .ensures, c .before .before .before .before .before .before .before .if3 .left, ← size, ← c .before .size-legal .ensures, c .if4 .taken)
+    let tests = c .before .before .before .before .before .before .before in
+    let four = tests .before .before .before .if1 .left in
+    let size = c .before .before .u32-from-bytes .ensures ∙ ap fromBytes (four-bytes (now (tests .before .before .before .before .before .args .payload)) four) in
+    rw (eq-eqb _ _ four, tests .before .before .if2 .left, ← tests .before .is-open .ensures, tests .if3 .left, ← size, ← c .before .size-legal .ensures, c .if4 .taken)
 
 returns-5 : tie.Need-returns-5
 unfolding setupFault fault
 returns-5 c =
-    let size = c .before .before .before .u32-from-bytes .ensures ∙ ap fromBytes (four-bytes (now (c .before .before .before .before .before .before .before .before .before .before .before .before .before .args .payload)) (c .before .before .before .before .before .before .before .before .before .before .before .if1 .left)) in
-    rw (eq-eqb _ _ (c .before .before .before .before .before .before .before .before .before .before .before .if1 .left), c .before .before .before .before .before .before .before .before .before .before .if2 .left, ← c .before .before .before .before .before .before .before .before .before .is-open .ensures, c .before .before .before .before .before .before .before .before .if3 .left, ← size, ← c .before .before .size-legal .ensures, c .before .if4 .left, lt-ltb _ _ (c .if5 .taken))
+    let tests = c .before .before .before .before .before .before .before .before in
+    let four = tests .before .before .before .if1 .left in
+    let size = c .before .before .before .u32-from-bytes .ensures ∙ ap fromBytes (four-bytes (now (tests .before .before .before .before .before .args .payload)) four) in
+    rw (eq-eqb _ _ four, tests .before .before .if2 .left, ← tests .before .is-open .ensures, tests .if3 .left, ← size, ← c .before .before .size-legal .ensures, c .before .if4 .left, lt-ltb _ _ (c .if5 .taken))
 
 returns-6 : tie.Need-returns-6
 unfolding setupFault fault
 returns-6 c =
-    let size = c .before .before .before .u32-from-bytes .ensures ∙ ap fromBytes (four-bytes (now (c .before .before .before .before .before .before .before .before .before .before .before .before .before .args .payload)) (c .before .before .before .before .before .before .before .before .before .before .before .if1 .left)) in
-    rw (eq-eqb _ _ (c .before .before .before .before .before .before .before .before .before .before .before .if1 .left), c .before .before .before .before .before .before .before .before .before .before .if2 .left, ← c .before .before .before .before .before .before .before .before .before .is-open .ensures, c .before .before .before .before .before .before .before .before .if3 .left, ← size, ← c .before .before .size-legal .ensures, c .before .if4 .left, le-ltb _ _ (c .if5 .left))
+    let tests = c .before .before .before .before .before .before .before .before in
+    let four = tests .before .before .before .if1 .left in
+    let size = c .before .before .before .u32-from-bytes .ensures ∙ ap fromBytes (four-bytes (now (tests .before .before .before .before .before .args .payload)) four) in
+    rw (eq-eqb _ _ four, tests .before .before .if2 .left, ← tests .before .is-open .ensures, tests .if3 .left, ← size, ← c .before .before .size-legal .ensures, c .before .if4 .left, le-ltb _ _ (c .if5 .left))
 
 pub setup-fault-spec : {M : Type 1} → statement M
 setup-fault-spec =

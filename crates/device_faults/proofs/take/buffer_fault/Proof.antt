@@ -8,12 +8,12 @@ use Rattle.device_rules.specs.Faults.{fault, bufferFault}
 use Rattle.device_faults.proofs.take.buffer_fault.Statement.{statement}
 use Rattle.device_faults.proofs.take.buffer_fault.Tie as tie
 
-frame-length-requires : tie.Need-frame-length-requires
-frame-length-requires c κs = search needs
+buffered-length-requires : tie.Need-buffered-length-requires
+buffered-length-requires c κs = search needs
 
 returns : tie.Need-returns
 unfolding bufferFault fault
-returns c = rw (← c .before .frame-length .ensures, eq-eqb _ _ (c .if1 .taken))
+returns c = rw (← c .before .buffered-length .ensures, eq-eqb _ _ (c .if1 .taken))
 
 cast-if2 : tie.Need-cast-if2
 cast-if2 c = search needs
@@ -22,23 +22,23 @@ cast-if2-2 : tie.Need-cast-if2-2
 cast-if2-2 c = search needs
 
 add-if2 : tie.Need-add-if2
-add-if2 c = omega (arith, c .before .before .before .frame-length .ensures, frame-most (c .before .before .before .before .args .transfer) (c .before .before .before .before .good .0), c .struct-known2 .given)
+add-if2 c = omega (arith, c .before .before .before .buffered-length .ensures, frame-most (c .before .before .before .before .args .transfer) (c .before .before .before .before .good .0), c .struct-known2 .given)
 
 returns-2 : tie.Need-returns-2
 unfolding bufferFault fault
 returns-2 c =
     let d = c .before .before .before .before .before .args .transfer in
-    let above : d .size - d .stored < c .before .before .before .before .frame-length .result = omega arith in
-    rw (← c .before .before .before .before .frame-length .ensures, ne-eqb _ _ (c .before .before .before .if1 .left), lt-ltb _ _ above)
+    let above : d .size - d .stored < c .before .before .before .before .buffered-length .result = omega arith in
+    rw (← c .before .before .before .before .buffered-length .ensures, ne-eqb _ _ (c .before .before .before .if1 .left), lt-ltb _ _ above)
 
 returns-3 : tie.Need-returns-3
 unfolding bufferFault fault
 returns-3 c =
     let d = c .before .before .before .before .before .args .transfer in
-    let room : c .before .before .before .before .frame-length .result ≤ d .size - d .stored = omega arith in
-    rw (← c .before .before .before .before .frame-length .ensures, ne-eqb _ _ (c .before .before .before .if1 .left), le-ltb _ _ room)
+    let room : c .before .before .before .before .buffered-length .result ≤ d .size - d .stored = omega arith in
+    rw (← c .before .before .before .before .buffered-length .ensures, ne-eqb _ _ (c .before .before .before .if1 .left), le-ltb _ _ room)
 
 pub buffer-fault-spec : {M : Type 1} → statement M
 buffer-fault-spec =
     tie.close
-    (tie.spec frame-length-requires returns cast-if2 cast-if2-2 add-if2 returns-2 returns-3)
+    (tie.spec buffered-length-requires returns cast-if2 cast-if2-2 add-if2 returns-2 returns-3)

@@ -46,9 +46,10 @@ number-fault-requires c κs = search needs
 returns-5 : tie.Need-returns-5
 unfolding takeFault fault
 returns-5 c =
-    let two = c .before .before .before .before .before .before .before .before .before .if1 .left in
-    let number = c .before .u16-from-bytes .ensures ∙ ap fromBytes (two-bytes (now (c .before .before .before .before .before .before .before .before .before .before .before .args .payload)) two) in
-    rw (c .number-fault .ensures, eq-eqb _ _ two, ← c .before .before .before .before .before .before .before .before .is-idle .ensures, c .before .before .before .before .before .before .before .if2 .left, c .before .before .before .before .before .before .if3 .left, ← c .before .before .before .before .before .is-finished .ensures, c .before .before .before .before .if4 .left, ← number)
+    let tests = c .before .before .before .before in
+    let two = tests .before .before .before .before .before .if1 .left in
+    let number = c .before .u16-from-bytes .ensures ∙ ap fromBytes (two-bytes (now (tests .before .before .before .before .before .before .before .args .payload)) two) in
+    rw (c .number-fault .ensures, eq-eqb _ _ two, ← tests .before .before .before .before .is-idle .ensures, tests .before .before .before .if2 .left, tests .before .before .if3 .left, ← tests .before .is-finished .ensures, tests .if4 .left, ← number)
 
 pub take-fault-spec : {M : Type 1} → statement M
 take-fault-spec =

@@ -72,12 +72,12 @@ returns c =
     let l = a .line in
     let name = spaced (nameText (l .name)) in
     let id = spaced (fieldText (l .id)) in
-    let length = spaced (fieldText (l .length)) in
+    let len = spaced (fieldText (l .len)) in
     let code = spaced (fieldText (l .code)) in
     let o = now (a .out) in
-    put-more (decimal (l .at) ++ name ++ id ++ length ++ code) (text "\n") o _ _ (a .at) _ _
-    (put-more (decimal (l .at) ++ name ++ id ++ length) code o _ _ (a .at) _ _
-    (put-more (decimal (l .at) ++ name ++ id) length o _ _ (a .at) _ _
+    put-more (decimal (l .at) ++ name ++ id ++ len ++ code) (text "\n") o _ _ (a .at) _ _
+    (put-more (decimal (l .at) ++ name ++ id ++ len) code o _ _ (a .at) _ _
+    (put-more (decimal (l .at) ++ name ++ id) len o _ _ (a .at) _ _
     (put-more (decimal (l .at) ++ name) id o _ _ (a .at) _ _
     (put-more (decimal (l .at)) name o _ _ (a .at) _ _ (d .put-decimal .ensures) (n .put-name .ensures))
     (f .put-field .ensures))

@@ -5,7 +5,7 @@ use borrow.Author.Needs.{needs}
 use denote.Ref.{now}
 use Rattle.message_rules.specs.Answer.{readResult}
 use Rattle.listing_rules.specs.Lines.{line}
-use Rattle.listing_rules.proofs.Reading.{told-most, told-whole}
+use Rattle.listing_rules.proofs.Reading.{counted-most, counted-whole}
 use Rattle.listing_writer.proofs.line.read_line.Statement.{statement}
 use Rattle.listing_writer.proofs.line.read_line.Tie as tie
 
@@ -26,17 +26,27 @@ enum-known-message c = search needs
 
 message-line-requires : tie.Need-message-line-requires
 unfolding readResult
-message-line-requires c κs = told-most (now (c .before .before .before .before .before .before .before .args .frame)) _ _ (rw (c .before .message .given .1) at (told-whole (now (c .before .before .before .before .before .before .before .args .frame)) _ (c .before .before .before .before .read .result) (le-refl 256) (c .before .before .before .before .read .ensures .0)))
+message-line-requires c κs =
+    let read = c .before .before .before .before in
+    let entry = read .before .before .before .args in
+    let whole = counted-whole (now (entry .frame)) _ (read .read .result) (le-refl 256) (read .read .ensures .0) in
+    counted-most (now (entry .frame)) _ _ (rw (c .before .message .given .1) at whole)
 
 returns : tie.Need-returns
 unfolding readResult
 returns c =
-    c .refused-line .ensures ∙ ap (line (c .before .before .before .before .before .before .before .before .args .at)) (rw (c .before .before .refusal .given .1) at (told-whole (now (c .before .before .before .before .before .before .before .before .args .frame)) _ (c .before .before .before .before .before .read .result) (le-refl 256) (c .before .before .before .before .before .read .ensures .0)))
+    let read = c .before .before .before .before .before in
+    let entry = read .before .before .before .args in
+    let whole = counted-whole (now (entry .frame)) _ (read .read .result) (le-refl 256) (read .read .ensures .0) in
+    c .refused-line .ensures ∙ ap (line (entry .at)) (rw (c .before .before .refusal .given .1) at whole)
 
 returns-2 : tie.Need-returns-2
 unfolding readResult
 returns-2 c =
-    c .message-line .ensures ∙ ap (line (c .before .before .before .before .before .before .before .before .args .at)) (rw (c .before .before .message .given .1) at (told-whole (now (c .before .before .before .before .before .before .before .before .args .frame)) _ (c .before .before .before .before .before .read .result) (le-refl 256) (c .before .before .before .before .before .read .ensures .0)))
+    let read = c .before .before .before .before .before in
+    let entry = read .before .before .before .args in
+    let whole = counted-whole (now (entry .frame)) _ (read .read .result) (le-refl 256) (read .read .ensures .0) in
+    c .message-line .ensures ∙ ap (line (entry .at)) (rw (c .before .before .message .given .1) at whole)
 
 pub read-line-spec : {M : Type 1} → statement M
 read-line-spec =

@@ -46,7 +46,10 @@ module _ (t : ℕ) where
   same-length c = search needs
 
   returns : lts.Need-returns calls at put-decimal.Post
-  returns c = let h = c .before .before .before .before .if1 .taken in rw (decimal-digit (c .before .before .before .before .before .before .args .n) h, ← digit-byte (c .before .before .before .before .before .before .args .n) h) (c .before .before .put-byte .ensures)
+  returns c =
+      let h = c .before .before .before .before .if1 .taken in
+      let n = c .before .before .before .before .before .before .args .n in
+      rw (decimal-digit n h, ← digit-byte n h) (c .before .before .put-byte .ensures)
 
   put-decimal-requires : lts.Need-put-decimal-requires calls at put-decimal.Post
   put-decimal-requires c κs = (omega (arith, c .before .before .before .pre .0), omega (arith, more-size (c .before .before .before .args .n) (c .before .if1 .left), c .before .before .before .pre .1))
@@ -58,7 +61,9 @@ module _ (t : ℕ) where
   add-put-byte-2 c = search needs
 
   put-byte-requires-2 : lts.Need-put-byte-requires-2 calls at put-decimal.Post
-  put-byte-requires-2 c κs = omega (arith, more-size (c .before .before .before .before .before .before .before .args .n) (c .before .before .before .before .before .if1 .left), c .before .before .before .before .before .before .before .pre .1, c .before .before .before .put-decimal .ensures .0)
+  put-byte-requires-2 c κs =
+      let entry = c .before .before .before .before .before .before .before in
+      omega (arith, more-size (entry .args .n) (c .before .before .before .before .before .if1 .left), entry .pre .1, c .before .before .before .put-decimal .ensures .0)
 
   same-length-2 : lts.Need-same-length-2 calls at put-decimal.Post
   same-length-2 c = search needs

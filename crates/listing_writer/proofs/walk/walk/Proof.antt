@@ -25,7 +25,8 @@ abbrev μ-frames : tie.MeasureT-frames
 μ-frames bytes out₀ to₀ at₀ out to at = length bytes - at
 
 -- What stands where the hunt is left.
-begins : (c : tie.After-enum-told Inv-loop μ-loop Inv-frames μ-frames) → Begins (now (c .before .before .before .before .before .before .before .before .before .before .before .before .before .before .before .before .args .bytes)) (c .before .before .before .before .before .before .before .before .frames .at) (c .before .before .before .before .before .before .before .loop .at)
+begins : (c : tie.After-enum-told Inv-loop μ-loop Inv-frames μ-frames)
+    → let hunt = c .before .before .before .before .before .before .before in Begins (now (hunt .before .before .before .before .before .before .before .before .before .args .bytes)) (hunt .before .frames .at) (hunt .loop .at)
 begins c =
     record {
       hunted = c .before .before .before .before .before .before .before .loop .inv;
@@ -36,8 +37,12 @@ begins c =
     }
 
 -- Where its frame ends.
-ends : (c : tie.After-scan Inv-loop μ-loop Inv-frames μ-frames) → let f = drop (c .before .before .before .before .before .before .before .before .loop .at) (now (c .before .before .before .before .before .before .before .before .before .before .before .before .before .before .before .before .before .args .bytes)) in (c .scan .result .stop ≡ frameScan f .stop) × (c .scan .result .end ≡ c .before .before .before .before .before .before .before .before .loop .at + frameLength f)
-ends c = scanned (now (c .before .before .before .before .before .before .before .before .before .before .before .before .before .before .before .before .before .args .bytes)) (c .before .before .before .before .before .before .before .before .loop .at) (c .scan .result .stop) (c .scan .result .end) (ap (λ (x : Scanned). x .stop) (c .scan .ensures)) (ap (λ (x : Scanned). x .end) (c .scan .ensures))
+ends : (c : tie.After-scan Inv-loop μ-loop Inv-frames μ-frames)
+    → let hunt = c .before .before .before .before .before .before .before .before in let f = drop (hunt .loop .at) (now (hunt .before .before .before .before .before .before .before .before .before .args .bytes)) in
+    (c .scan .result .stop ≡ frameScan f .stop) × (c .scan .result .end ≡ hunt .loop .at + frameLength f)
+ends c =
+    let hunt = c .before .before .before .before .before .before .before .before in
+    scanned (now (hunt .before .before .before .before .before .before .before .before .before .args .bytes)) (hunt .loop .at) (c .scan .result .stop) (c .scan .result .end) (ap (λ (x : Scanned). x .stop) (c .scan .ensures)) (ap (λ (x : Scanned). x .end) (c .scan .ensures))
 
 slice-aggregate-put-text : tie.Need-slice-aggregate-put-text Inv-loop μ-loop Inv-frames μ-frames
 slice-aggregate-put-text c = search needs
@@ -65,8 +70,8 @@ loop-less c = search needs
 
 loop-again : tie.Need-loop-again Inv-loop μ-loop Inv-frames μ-frames
 loop-again c =
-    let b = now (c .before .before .before .before .before .before .before .before .before .before .before .before .args .bytes) in
-    hunted-byte b (c .before .before .before .before .frames .at) (c .before .before .before .loop .at) (c .before .before .before .loop .inv) (omega arith) (c .if1 .taken)
+    let hunt = c .before .before .before in
+    hunted-byte (now (hunt .before .before .before .before .before .before .before .before .before .args .bytes)) (hunt .before .frames .at) (hunt .loop .at) (hunt .loop .inv) (omega arith) (c .if1 .taken)
 
 add-start-row : tie.Need-add-start-row Inv-loop μ-loop Inv-frames μ-frames
 add-start-row c = search needs
@@ -92,8 +97,8 @@ loop-less-2 c = search needs
 
 loop-again-2 : tie.Need-loop-again-2 Inv-loop μ-loop Inv-frames μ-frames
 loop-again-2 c =
-    let b = now (c .before .before .before .before .before .before .before .before .before .before .before .before .before .before .before .before .args .bytes) in
-    hunted-pair b (c .before .before .before .before .before .before .before .before .frames .at) (c .before .before .before .before .before .before .before .loop .at) (c .before .before .before .before .before .before .before .loop .inv) (omega arith) (c .before .before .before .before .if1 .left) (sym (c .before .before .start-row .ensures) ∙ c .enum-told2 .given .1)
+    let hunt = c .before .before .before .before .before .before .before in
+    hunted-pair (now (hunt .before .before .before .before .before .before .before .before .before .args .bytes)) (hunt .before .frames .at) (hunt .loop .at) (hunt .loop .inv) (omega arith) (c .before .before .before .before .if1 .left) (sym (c .before .before .start-row .ensures) ∙ c .enum-told2 .given .1)
 
 add-scan : tie.Need-add-scan Inv-loop μ-loop Inv-frames μ-frames
 add-scan c = search needs
@@ -102,28 +107,37 @@ scan-requires : tie.Need-scan-requires Inv-loop μ-loop Inv-frames μ-frames
 scan-requires c κs = search needs
 
 frame-line-requires : tie.Need-frame-line-requires Inv-loop μ-loop Inv-frames μ-frames
-frame-line-requires c κs = (ends c .0, (ends c .1, rw (ends c .1) (end-inside (now (c .before .before .before .before .before .before .before .before .before .before .before .before .before .before .before .before .before .args .bytes)) _ _ (begins (c .before)))))
+frame-line-requires c κs =
+    let hunt = c .before .before .before .before .before .before .before .before in
+    (ends c .0, (ends c .1, rw (ends c .1) (end-inside (now (hunt .before .before .before .before .before .before .before .before .before .args .bytes)) _ _ (begins (c .before)))))
 
 put-line-requires : tie.Need-put-line-requires Inv-loop μ-loop Inv-frames μ-frames
 unfolding frameLine
 put-line-requires c κs =
-    rw (c .before .frame-line .ensures) (line-fits (now (c .before .before .before .before .before .before .before .before .before .before .before .before .before .before .before .before .before .before .before .args .bytes)) _ _ (begins (c .before .before .before)) _ _ _ _ (c .before .before .before .before .before .before .before .before .before .before .before .frames .inv) (c .before .before .before .before .before .before .before .before .before .before .before .before .before .before .put-text .ensures .0) (c .before .before .before .before .before .before .before .before .before .before .before .before .before .before .before .before .before .before .before .pre))
+    let frames = c .before .before .before .before .before .before .before .before .before .before .before in
+    let entry = frames .before .before .before .before .before .before .before .before in
+    rw (c .before .frame-line .ensures) (line-fits (now (entry .args .bytes)) _ _ (begins (c .before .before .before)) _ _ _ _ (frames .frames .inv) (frames .before .before .before .put-text .ensures .0) (entry .pre))
 
 frames-less : tie.Need-frames-less Inv-loop μ-loop Inv-frames μ-frames
-frames-less c = omega (arith, ends (c .before .before .before .before .before) .1, end-inside (now (c .before .before .before .before .before .before .before .before .before .before .before .before .before .before .before .before .before .before .before .before .before .before .args .bytes)) _ _ (begins (c .before .before .before .before .before .before)), c .before .before .before .before .before .before .before .before .before .before .before .before .before .loop .inv .0)
+frames-less c =
+    let hunt = c .before .before .before .before .before .before .before .before .before .before .before .before .before in
+    omega (arith, ends (c .before .before .before .before .before) .1, end-inside (now (hunt .before .before .before .before .before .before .before .before .before .args .bytes)) _ _ (begins (c .before .before .before .before .before .before)), hunt .loop .inv .0)
 
 frames-again : tie.Need-frames-again Inv-loop μ-loop Inv-frames μ-frames
 unfolding frameLine
 frames-again c =
+    let frames = c .before .before .before .before .before .before .before .before .before .before .before .before .before .before in
     rw (ends (c .before .before .before .before .before) .1)
-    (walked-frame (now (c .before .before .before .before .before .before .before .before .before .before .before .before .before .before .before .before .before .before .before .before .before .before .args .bytes)) _ _ (begins (c .before .before .before .before .before .before)) _ _ _ _ (c .before .before .before .before .before .before .before .before .before .before .before .before .before .before .frames .inv) _ _ (rw (c .before .before .before .before .frame-line .ensures) at (c .before .before .put-line .ensures)) (c .before .before .put-line .kept .1 .0))
+    (walked-frame (now (frames .before .before .before .before .before .before .before .before .args .bytes)) _ _ (begins (c .before .before .before .before .before .before)) _ _ _ _ (frames .frames .inv) _ _ (rw (c .before .before .before .before .frame-line .ensures) at (c .before .before .put-line .ensures)) (c .before .before .put-line .kept .1 .0))
 
 same-length : tie.Need-same-length Inv-loop μ-loop Inv-frames μ-frames
 same-length c = c .before .before .frames .inv .1 ∙ c .before .before .before .before .before .put-text .kept .1 .0
 
 returns : tie.Need-returns Inv-loop μ-loop Inv-frames μ-frames
 returns c =
-    walked-end (now (c .before .before .before .before .before .before .before .before .before .before .args .bytes)) (now (c .before .before .before .before .before .before .before .before .before .before .args .out)) _ _ _ _ (c .before .before .frames .at) (c .before .loop .at) (c .before .before .before .before .before .before .before .before .before .before .pre) (c .before .before .before .before .before .put-text .ensures) (c .before .before .frames .inv) (c .before .loop .inv) (c .loop-test .taken)
+    let frames = c .before .before in
+    let entry = frames .before .before .before .before .before .before .before .before in
+    walked-end (now (entry .args .bytes)) (now (entry .args .out)) _ _ _ _ (frames .frames .at) (c .before .loop .at) (entry .pre) (frames .before .before .before .put-text .ensures) (frames .frames .inv) (c .before .loop .inv) (c .loop-test .taken)
 
 pub walk-spec : {M : Type 1} → statement M
 walk-spec =

@@ -1,4 +1,4 @@
--- A walk of the MIR by hand, since a beginning of an array of structs is lent: carried by the contracts of `lent` and `write`. A lifetime is made
+-- A walk of the MIR by hand, since a beginning of an array of structs is lent: carried by the contracts of `lent_count` and `write`. A lifetime is made
 -- for the call, the first records are lent for it, and once it has ended they are back, before the others.
 use Prim.Native.Nat.{ℕ, _<_, _^_}
 use native.Mathlib.Omega.{arith}
@@ -54,23 +54,23 @@ use Rattle.message_rules.proofs.Message as Msg
 use Rattle.message_rules.proofs.Message.Laws as Msg′
 use Rattle.message_rules.proofs.WriteAnswer as S
 use Rattle.message_rules.proofs.WriteAnswer.Laws as S′
-use Rattle.can_records.specs.Records.{recordsWrite, fitting, used, filled}
-use Rattle.can_records.specs.declared.CanFrame.{CanFrame}
-use Rattle.can_records.proofs.Row.{say-both, cells-apart, cells-join, array-in, array-out}
-use Rattle.can_records.proofs.CanFrame as F
-use Rattle.can_records.proofs.CanFrame.Laws as F′
+use Rattle.can_rules.specs.Records.{recordsWrite, fitting, recordsCounted, filled}
+use Rattle.can_rules.specs.declared.CanFrame.{CanFrame}
+use Rattle.can_records.proofs.Arrays.{say-both, cells-apart, cells-join, array-in, array-out}
+use Rattle.can_rules.proofs.CanFrame as F
+use Rattle.can_rules.proofs.CanFrame.Laws as F′
 use Rattle.can_records.proofs.write as write
 use Rattle.can_records.proofs.write.Symbol as write-def
 use Rattle.can_records.proofs.write.Symbol.{name as #write}
 use Rattle.can_records.proofs.write.Met as write-thm
-use Rattle.replay.specs.Lent.{lentOf}
-use Rattle.replay.proofs.Lent.{filled-part, lent-most}
+use Rattle.replay.specs.LentCount.{lentCount}
+use Rattle.replay.proofs.LentCount.{filled-part, lent-most}
 use Rattle.replay.proofs.records.Written as K
 use Rattle.replay.proofs.records.Written.Laws as K′
-use Rattle.replay.proofs.records.lent as lent
-use Rattle.replay.proofs.records.lent.Symbol as lent-def
-use Rattle.replay.proofs.records.lent.Symbol.{name as #lent}
-use Rattle.replay.proofs.records.lent.Met as lent-thm
+use Rattle.replay.proofs.records.lent_count as lent
+use Rattle.replay.proofs.records.lent_count.Symbol as lent-def
+use Rattle.replay.proofs.records.lent_count.Symbol.{name as #lent}
+use Rattle.replay.proofs.records.lent_count.Met as lent-thm
 use Rattle.replay.proofs.records.write.Key.{name as #whole}
 use Rattle.replay.proofs.records.write as whole
 use Rattle.replay.proofs.records.write.Statement as stated
@@ -111,7 +111,7 @@ module _ {M : Type 1} (𝓤 : URA M) (H : Heap 𝓤) (A : Atoms 𝓤) (W : Given
     (κ : Lft) (q : Share) (m : Message) (s : RefT (List ℕ)) (fs : List CanFrame) (c : ℕ)
     (is-m : Is Msg.the-row m (LL.vals Msg.the-type Msg′.the-laws m)) (gs : Room u8 (length (now s))) (is-f : Is (Array F.the-row 64) fs (vals fs)) (gc : c < 2 ^ 64) where
   abbrev n : ℕ
-  n = lentOf c
+  n = lentCount c
 
   abbrev mv : Val
   mv = LL.val Msg.the-type Msg′.the-laws m
@@ -150,7 +150,7 @@ module _ {M : Type 1} (𝓤 : URA M) (H : Heap 𝓤) (A : Atoms 𝓤) (W : Given
   room : Room F.the-row (length some-of)
   room = (omega (arith, lent-length, lent-most c), omega (arith, lent-length, lent-most c))
 
-  -- the call of `lent`
+  -- the call of `lent_count`
   abbrev to-lent : LentC 𝓤 H A mem-at run .Ghost
   to-lent = ((tt, tt, tt, (c, tt), (vint w64 c ∷ [], tt)), tt)
 
@@ -184,7 +184,7 @@ module _ {M : Type 1} (𝓤 : URA M) (H : Heap 𝓤) (A : Atoms 𝓤) (W : Given
     abbrev Comes : Val → Item 𝓤
     Comes v = later (some (λ (a : WriteAnswer). ((‵ (flft κ q) ⊛ (‵ (flft (α ∷ []) fullShare) ⊛ ‵ ftrue)) ⊛ ‵ (S.the-row .own a (v ∷ [])))
         ⊛ some (λ (ws : Last). ‵ (lasts write.ended (κ, (α ∷ [], tt)) (m, (s, (frames, tt))) ws)
-        ⊛ (raw (fact 𝓤 (writeResult a ≡ used (answer (length some-of)))) ⊛ raw (fact 𝓤 (ws .1 .1 .0 ≡ filled (answer (length some-of)) some-of))))))
+        ⊛ (raw (fact 𝓤 (writeResult a ≡ recordsCounted (answer (length some-of)))) ⊛ raw (fact 𝓤 (ws .1 .1 .0 ≡ filled (answer (length some-of)) some-of))))))
 
   -- from what is had at exit to the `post`
   abbrev out : List CanFrame
@@ -197,7 +197,7 @@ module _ {M : Type 1} (𝓤 : URA M) (H : Heap 𝓤) (A : Atoms 𝓤) (W : Given
   out-length : (ys : List CanFrame) → length ys ≡ length some-of → ys ≡ filled (answer (length some-of)) some-of → length out ≡ 64
   out-length ys size e = rw (← back ys e, length-append, length-drop) (omega (arith, size, lent-length, fs-length, lent-most c))
 
-  exits : (a : WriteAnswer) → writeResult a ≡ used (answer n) → Is (Array F.the-row 64) out (vals out) → Is S.the-row a (S′.lowered a ∷ [])
+  exits : (a : WriteAnswer) → writeResult a ≡ recordsCounted (answer n) → Is (Array F.the-row 64) out (vals out) → Is S.the-row a (S′.lowered a ∷ [])
       → ent 𝓤 (⋆ 𝓤 H A (‵ (flft κ q) ∷ ‵ Payload ∷ ‵ (Own fs) ∷ [])) (Post (K′.lowered (record { frames = out; answer = a })))
   exits a says is-out is-a =
       qed W (‵ (flft κ q) ∷ ‵ Payload ∷ ‵ (Own fs) ∷ []) ∵
@@ -239,7 +239,7 @@ module _ {M : Type 1} (𝓤 : URA M) (H : Heap 𝓤) (A : Atoms 𝓤) (W : Given
       -- [what `write` asks; the payload; the loan; the others; the array; _10; …]
       calls-at ! (fmOf 𝓤 H (W .laws) 𝓣) (WriteC 𝓤 H A mem-at run) known-write (to-write α l₅ γ) (and-then ! (load ! (from ! (stop !)) (look ! 22 refl)) (and-then ! (load ! (from ! (stop !)) (look ! 20 refl)) (and-then ! (load ! (from ! (stop !)) (look ! 7 refl)) (no-more !)))) (λ v.
       use1 W (Comes α l₅ γ v) (id⊢ 𝓤 _) $ await ! tt $ pick ! (λ a. split ! $ move ! (1 ∷ []) $ pick ! (λ ws. split ! $ move ! (1 ∷ []) $ split ! $
-      heard ! (writeResult a ≡ used (answer (length some-of))) (λ says. heard ! (ws .1 .1 .0 ≡ filled (answer (length some-of)) some-of) (λ last.
+      heard ! (writeResult a ≡ recordsCounted (answer (length some-of))) (λ says. heard ! (ws .1 .1 .0 ≡ filled (answer (length some-of)) some-of) (λ last.
       -- [what is said of the last values; the tokens and the answer; the payload; the loan; the others; the array; _10; …]
       fsplit ! $ drop ! $ fsplit ! $ drop ! $ fsplit ! $ fsplit ! $ move ! (1 ∷ 2 ∷ []) $ drop ! $ drop ! $
       -- [the last list; the tokens and the answer; the payload; the loan; the others; the array; _10; …]
@@ -290,5 +290,5 @@ write-spec 𝓤 H 𝓜 𝓖 𝓡 =
     entered 𝓤 H (tripleOf 𝓤 H (𝓖 .A) whole.signature (whole.spec 𝓤 H (𝓖 .A) (𝓜 .mem) (𝓡 .run)))
     (tables 𝓤 H 𝓜 𝓡 code.env .C) (tables 𝓤 H 𝓜 𝓡 code.env .Λ) #whole code.function (code.unfolded 𝓤 H 𝓜 𝓡)
     (array-meets 𝓤 H (𝓖 .A) (givenOf 𝓤 H 𝓜 𝓖) (𝓜 .mem) (𝓡 .run) (tablesOf 𝓤 H 𝓜 (tables 𝓤 H 𝓜 𝓡 code.env))
-    (cited 𝓤 H (LentC 𝓤 H (𝓖 .A) (𝓜 .mem) (𝓡 .run)) 𝓜 𝓡 code.env #lent lent-def.routine code.calls-replay·records·lent (lent-thm.met 𝓤 H 𝓜 𝓖 𝓡))
+    (cited 𝓤 H (LentC 𝓤 H (𝓖 .A) (𝓜 .mem) (𝓡 .run)) 𝓜 𝓡 code.env #lent lent-def.routine code.calls-replay·records·lent-count (lent-thm.met 𝓤 H 𝓜 𝓖 𝓡))
     (cited 𝓤 H (WriteC 𝓤 H (𝓖 .A) (𝓜 .mem) (𝓡 .run)) 𝓜 𝓡 code.env #write write-def.routine code.calls-can-records·write (write-thm.met 𝓤 H 𝓜 𝓖 𝓡)))

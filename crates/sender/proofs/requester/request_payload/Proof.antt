@@ -7,14 +7,14 @@ use Rattle.sender.proofs.requester.request_payload.Tie as tie
 enum-told : tie.Need-enum-told
 enum-told c = search needs
 
-frame-bytes-requires : tie.Need-frame-bytes-requires
-frame-bytes-requires c κs = search needs
+file-frame-requires : tie.Need-file-frame-requires
+file-frame-requires c κs = search needs
 
 enum-told-2 : tie.Need-enum-told-2
 enum-told-2 c = search needs
 
-frame-bytes-requires-2 : tie.Need-frame-bytes-requires-2
-frame-bytes-requires-2 c κs = search needs
+file-frame-requires-2 : tie.Need-file-frame-requires-2
+file-frame-requires-2 c κs = search needs
 
 enum-told-3 : tie.Need-enum-told-3
 enum-told-3 c = search needs
@@ -33,11 +33,11 @@ slice-aggregate-result-2 c = search needs
 
 returns : tie.Need-returns
 unfolding requestPayload
-returns c = rw (c .before .enum-told .given .1) (c .frame-bytes .ensures)
+returns c = rw (c .before .enum-told .given .1) (c .file-frame .ensures)
 
 returns-2 : tie.Need-returns-2
 unfolding requestPayload
-returns-2 c = rw (c .before .enum-told2 .given .1) (c .frame-bytes2 .ensures)
+returns-2 c = rw (c .before .enum-told2 .given .1) (c .file-frame2 .ensures)
 
 returns-3 : tie.Need-returns-3
 unfolding requestPayload
@@ -56,9 +56,9 @@ request-payload-spec =
     tie.close
     (tie.spec
     enum-told
-    frame-bytes-requires
+    file-frame-requires
     enum-told-2
-    frame-bytes-requires-2
+    file-frame-requires-2
     enum-told-3
     slice-aggregate-result
     enum-told-4

@@ -3,7 +3,7 @@ use mathlib.Core.Path.{refl}
 use borrow.Author.Needs.{needs}
 use Rattle.message_rules.specs.Answer.{writeResult, about}
 use Rattle.sender_rules.specs.Sender.{requestResult}
-use Rattle.message_rules.proofs.Answers.{about-told, about-output}
+use Rattle.message_rules.proofs.Answers.{about-counted, about-output}
 use Rattle.sender.proofs.requester.send.Statement.{statement}
 use Rattle.sender.proofs.requester.send.Tie as tie
 
@@ -23,7 +23,7 @@ returns : tie.Need-returns
 unfolding writeResult requestResult about
 returns c =
     let e = rw (c .before .n .given .1) at (c .before .before .before .before .before .write .ensures) in
-    rw (about-told, about-output, ← e .0) (refl, e .1)
+    rw (about-counted, about-output, ← e .0) (refl, e .1)
 
 same-length-2 : tie.Need-same-length-2
 same-length-2 c = search needs
@@ -32,7 +32,7 @@ returns-2 : tie.Need-returns-2
 unfolding writeResult requestResult about
 returns-2 c =
     let e = rw (c .before .refusal .given .1) at (c .before .before .before .before .before .write .ensures) in
-    rw (about-told, about-output, ← e .0) (refl, e .1)
+    rw (about-counted, about-output, ← e .0) (refl, e .1)
 
 pub send-spec : {M : Type 1} → statement M
 send-spec =

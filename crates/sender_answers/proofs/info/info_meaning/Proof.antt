@@ -17,14 +17,14 @@ enum-told-2 c = search needs
 enum-told-3 : tie.Need-enum-told-3
 enum-told-3 c = search needs
 
-frame-bytes-requires : tie.Need-frame-bytes-requires
-frame-bytes-requires c κs = search needs
+file-frame-requires : tie.Need-file-frame-requires
+file-frame-requires c κs = search needs
 
 compared-requires : tie.Need-compared-requires
 compared-requires c κs = search needs
 
-unless-error-requires : tie.Need-unless-error-requires
-unless-error-requires c κs = search needs
+informed-requires : tie.Need-informed-requires
+informed-requires c κs = search needs
 
 enum-told-4 : tie.Need-enum-told-4
 enum-told-4 c = search needs
@@ -35,8 +35,8 @@ enum-told-5 c = search needs
 confirmed-requires : tie.Need-confirmed-requires
 confirmed-requires c κs = search needs
 
-unless-error-requires-2 : tie.Need-unless-error-requires-2
-unless-error-requires-2 c κs = search needs
+informed-requires-2 : tie.Need-informed-requires-2
+informed-requires-2 c κs = search needs
 
 returns-2 : tie.Need-returns-2
 unfolding infoMeaning
@@ -50,7 +50,7 @@ returns-4 : tie.Need-returns-4
 unfolding infoMeaning
 returns-4 c =
     let frame = c .before .before in
-    rw (frame .before .enum-told3 .given .1, ← frame .frame-bytes .ensures, ← c .before .compared .ensures) (c .unless-error .ensures)
+    rw (frame .before .enum-told3 .given .1, ← frame .file-frame .ensures, ← c .before .compared .ensures) (c .informed .ensures)
 
 returns-5 : tie.Need-returns-5
 unfolding infoMeaning
@@ -58,7 +58,7 @@ returns-5 c = rw (c .enum-told4 .given .1)
 
 returns-6 : tie.Need-returns-6
 unfolding infoMeaning
-returns-6 c = rw (c .before .before .enum-told5 .given .1, ← c .before .confirmed .ensures) (c .unless-error2 .ensures)
+returns-6 c = rw (c .before .before .enum-told5 .given .1, ← c .before .confirmed .ensures) (c .informed2 .ensures)
 
 pub info-meaning-spec : {M : Type 1} → statement M
 info-meaning-spec =
@@ -68,13 +68,13 @@ info-meaning-spec =
     enum-told
     enum-told-2
     enum-told-3
-    frame-bytes-requires
+    file-frame-requires
     compared-requires
-    unless-error-requires
+    informed-requires
     enum-told-4
     enum-told-5
     confirmed-requires
-    unless-error-requires-2
+    informed-requires-2
     returns-2
     returns-3
     returns-4

@@ -8,7 +8,7 @@ use borrow.Author.Tests.{not-true, not-false}
 use denote.Ref.{now}
 use mathlib.Core.List.{List}
 use lib.ListN.{length}
-use Rattle.message_rules.specs.Answer.{failed, passed, number, verdictResult, readResult, within, counted, outputAfter}
+use Rattle.message_rules.specs.Answer.{failed, passed, refusalNumber, verdictResult, readResult, within, counted, outputAfter}
 use Rattle.message_rules.specs.Checks.{dataChecks}
 use Rattle.message_rules.specs.Kinds.{errorLength}
 use Rattle.message_rules.specs.declared.Message.{Message}
@@ -118,7 +118,7 @@ unfolding verdictResult within counted outputAfter readResult
 returns-2 c =
     let k = c .before .before .before .before in
     let a = Begin k .args in
-    let refuses : dataChecks (k .error-fields-carried .result) (length (Body k) - frontLength (a .link) (a .row)) ≡ failed (number (c .before .refusal .given .0 .0)) =
+    let refuses : dataChecks (k .error-fields-carried .result) (length (Body k) - frontLength (a .link) (a .row)) ≡ failed (refusalNumber (c .before .refusal .given .0 .0)) =
     rw (← size k, ← c .before .before .before .check-data .ensures, c .before .refusal .given .1) in
     rw (kind-refused (a .link) (a .row) (a .kind) (Body k) (k .error-fields-carried .result) (same k) _ refuses) (refl, refl)
 

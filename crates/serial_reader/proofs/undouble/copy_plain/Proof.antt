@@ -5,14 +5,14 @@ use native.Mathlib.Nat.{add-zero}
 use native.Mathlib.Omega.{arith}
 use borrow.Author.Needs.{needs}
 use lib.ListN.{length, length-set}
-use Rattle.serial_reader.specs.Undouble.{Storing, stored}
+use Rattle.serial_reader.specs.Undouble.{Storing, bodyStored}
 use Rattle.serial_reader.proofs.Undoubling.{store-byte, ended-inside, ended-next, plain-byte}
 use Rattle.serial_reader.proofs.undouble.copy_plain.Statement.{statement}
 use Rattle.serial_reader.proofs.undouble.copy_plain.Tie as tie
 
 abbrev Inv-loop : tie.InvT-loop
 Inv-loop bytes from out₀ to esc n₀ out n =
-    (from + n < length bytes) × (length out ≡ length out₀) × Storing bytes (stored bytes from out₀ to) out (from + n) (to + n)
+    (from + n < length bytes) × (length out ≡ length out₀) × Storing bytes (bodyStored bytes from out₀ to) out (from + n) (to + n)
 
 abbrev μ-loop : tie.MeasureT-loop
 μ-loop bytes from out₀ to esc n₀ out n = length bytes - (from + n)

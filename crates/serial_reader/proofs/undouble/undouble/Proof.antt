@@ -7,13 +7,13 @@ use denote.Ref.{now}
 use lib.ListN.{length, drop, length-set}
 use Rattle.message_rules.proofs.Stores.{sets-start}
 use Rattle.serial_rules.specs.Stuffing.{scan}
-use Rattle.serial_reader.specs.Undouble.{Storing, AtEscape, stored}
+use Rattle.serial_reader.specs.Undouble.{Storing, AtEscape, bodyStored}
 use Rattle.serial_reader.proofs.Undoubling.{store-doubled, store-tail}
 use Rattle.serial_reader.proofs.undouble.undouble.Statement.{statement}
 use Rattle.serial_reader.proofs.undouble.undouble.Tie as tie
 
 abbrev Inv-loop : tie.InvT-loop
-Inv-loop link bytes from out₀ esc last at₀ to₀ out at to = (length out ≡ length out₀) × Storing bytes (stored bytes from out₀ 0) out at to
+Inv-loop link bytes from out₀ esc last at₀ to₀ out at to = (length out ≡ length out₀) × Storing bytes (bodyStored bytes from out₀ 0) out at to
 
 abbrev μ-loop : tie.MeasureT-loop
 μ-loop link bytes from out₀ esc last at₀ to₀ out at to = length bytes - at
@@ -34,7 +34,7 @@ copy-plain-requires c κs = c .before .loop .inv .1 .fits
 at-escape : (c : tie.After-copy-plain Inv-loop μ-loop) → let a = c .before .before .before .before .before .before .before .args in
     let l = c .before .before .loop in
     let n = c .copy-plain .result in
-    AtEscape (now (a .bytes)) (stored (now (a .bytes)) (a .from) (now (a .out)) 0) (c .copy-plain .last .1 .1 .1 .0) (l .at + n) (l .to + n)
+    AtEscape (now (a .bytes)) (bodyStored (now (a .bytes)) (a .from) (now (a .out)) 0) (c .copy-plain .last .1 .1 .1 .0) (l .at + n) (l .to + n)
 at-escape c =
     let e = c .copy-plain .ensures in
     record { escape = e .escape; next = e .next; left = record { fits = e .left .fits; same = e .left .same ∙ c .before .before .loop .inv .1 .same } }
