@@ -53,4 +53,18 @@ returns c =
     record-is f _ (omega arith) (c .before .u32-from-bytes .ensures) refl (data-is ∙ sym (take-all dataSize (drop 5 f) (omega (arith, size))))
 
 pub record-of-spec : {M : Type 1} → statement M
-record-of-spec = tie.close (tie.spec sub-put part-put-start part-put-end slice-aggregate-put put-requires shared-slice-read-u32-from-bytes shared-slice-read-u32-from-bytes-2 shared-slice-read-u32-from-bytes-3 shared-slice-read-u32-from-bytes-4 u32-from-bytes-requires shared-slice-read-t20 returns)
+record-of-spec =
+    tie.close
+    (tie.spec
+    sub-put
+    part-put-start
+    part-put-end
+    slice-aggregate-put
+    put-requires
+    shared-slice-read-u32-from-bytes
+    shared-slice-read-u32-from-bytes-2
+    shared-slice-read-u32-from-bytes-3
+    shared-slice-read-u32-from-bytes-4
+    u32-from-bytes-requires
+    shared-slice-read-t20
+    returns)

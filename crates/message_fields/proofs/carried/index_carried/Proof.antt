@@ -10,11 +10,11 @@ error-length-requires c κs = search needs
 
 returns : tie.Need-returns
 unfolding indexCarried
-returns c = rw (← c .before .error-length .ensures, lt-leb _ _ (c .if1 .taken))
+returns c = rw (← c .before .error-length .ensures, lt-leb 2 (c .before .error-length .result) (c .if1 .taken))
 
 returns-2 : tie.Need-returns-2
 unfolding indexCarried
-returns-2 c = rw (← c .before .error-length .ensures, le-leb _ _ (c .if1 .left))
+returns-2 c = rw (← c .before .error-length .ensures, le-leb 2 (c .before .error-length .result) (c .if1 .left))
 
 pub index-carried-spec : {M : Type 1} → statement M
 index-carried-spec = tie.close (tie.spec error-length-requires returns returns-2)
