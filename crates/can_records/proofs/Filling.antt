@@ -57,6 +57,7 @@ pub decided : (m : Message) (p : List ℕ) (room : ℕ) (plan : Plan) → Planne
 unfolding recordsWrite
 decided m p room plan e = in-decided (canWrite m p) room plan e
 
+-- Once all are filled the list is what the rule says.
 filled-by : (a : Answer Unit (List CanFrame)) (xs : List CanFrame) → recordsToFill a ++ drop (length (recordsToFill a)) xs ≡ filled a xs
 unfolding filled
 filled-by (refused n) xs = refl

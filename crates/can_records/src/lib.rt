@@ -1,4 +1,5 @@
-// Messages on CAN as a lent list of frame records, for a driver that takes structs. The rules are `can_rules`'s: `Records`.
+// Messages on CAN as a lent list of frame records, for a driver that takes structs. The record is `can_rules::CanFrame`, and the
+// rules are `can_rules`'s: `Records`.
 mod plan;
 
 ghost use mathlib.Core.Path.{_≡_};

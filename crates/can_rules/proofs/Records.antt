@@ -7,7 +7,6 @@ use mathlib.Core.Path.{_≡_, refl, sym, _∙_, ap}
 use native.Mathlib.Numerals.{add-one}
 use native.Mathlib.Omega.{arith}
 use borrow.Author.Tests.{lt-leb}
-use lib.Dec.{leb}
 use lib.ListN.{length, getD, set, take, drop, List·getD-append, length-append, length-drop, take-append-drop}
 use lib.Seq.{take-append-le, drop-append-le, drop-cons, drop-drop, set-at, append-snoc, length-take-le, drop-at}
 use Rattle.little_endian_rules.specs.LittleEndian.{fromBytes}
@@ -70,7 +69,7 @@ records-more (suc i) b =
     let more : suc i + 1 ≡ suc (i + 1) = omega arith in
     rw (more, records-more i (drop 13 b), drop-drop, next)
 
--- A list whose first i records are filled: its length stays, a turn of the loop fills one more, and at the end it is what the rule says.
+-- A list whose first i records are filled: its length stays, and one more is filled at place i.
 module _ (b : List ℕ) (xs : List CanFrame) where
   abbrev pub filledTo : ℕ → List CanFrame
   filledTo i = recordsOf i b ++ drop i xs

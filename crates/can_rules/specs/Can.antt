@@ -35,7 +35,7 @@ abbrev pub longestSeries : ℕ
 longestSeries = frameSize * (mostLater + 1)
 
 -- "Types 1..6 are tc, tcack, tcnack, tlmreq, tlmrsp, tlmnack; 7 is a long tc, 8 a long tlmrsp, 9 an event": the first type of a series, and
--- the type in a series for the one in a single frame: a tc's, a tlmrsp's, and an event's own. The other kinds are never in a series.
+-- the type in a series for a kind's type: a tc's 1 becomes 7, a tlmrsp's 5 becomes 8, an event's 9 stays. The other kinds are never in one.
 abbrev pub firstSeries : ℕ
 firstSeries = 7
 

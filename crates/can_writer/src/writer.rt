@@ -54,7 +54,7 @@ fn in_series(kind: Kind, size: usize) -> bool
     message_kinds::is_event(kind) || DATA_SIZE < size
 }
 
-// The type in a series for the one in a single frame: a long tc is 7 and a long tlmrsp 8, and an event has its own.
+// The type in a series for a kind's type: a tc's 1 becomes 7, a tlmrsp's 5 becomes 8, an event's 9 stays.
 fn series_type(number: u8) -> u8
     ensures { λ r. ⌜ r ≡ seriesType number ⌝ }
 {

@@ -47,18 +47,18 @@ unfolding receive messageReply
 message-reply d store b m p t e q = rw (e, q)
 
 -- A command by its fault, with the unit and the answer that it comes to.
-pub telecommand-reply : (d : Device) (m : Message) (p : List ℕ) (f f′ : Fault) (next : Device) (answer : Message) → f′ ≡ f → next ≡ afterCommand d (m .id) p f
+pub command-reply : (d : Device) (m : Message) (p : List ℕ) (f f′ : Fault) (next : Device) (answer : Message) → f′ ≡ f → next ≡ afterCommand d (m .id) p f
     → answer ≡ commandAnswer d m f′ → commandReply d m p f ≡ about (answers next) (linkWrite (d .link) answer [])
 unfolding commandReply
-telecommand-reply d m p f f′ next answer e done same = rw (done, same, e)
+command-reply d m p f f′ next answer e done same = rw (done, same, e)
 
 -- What a writer answered, told with the unit.
 module _ (d next : Device) (out out′ : List ℕ) where
-  answer-told : (n : ℕ) (y : Answer Unit (List ℕ)) → given tt n ≡ counted y → out′ ≡ outputAfter y out
+  answer-counted : (n : ℕ) (y : Answer Unit (List ℕ)) → given tt n ≡ counted y → out′ ≡ outputAfter y out
       → (given (answers next) n ≡ counted (about (answers next) y)) × ((next ≡ afterReceive d (about (answers next) y)) × (out′ ≡ outputAfter (about (answers next) y) out))
   unfolding counted outputAfter about afterReceive
-  answer-told n (refused k) says left = absurd (let z : _≡_ {A = ℕ} 0 1 = cc in omega arith)
-  answer-told n (given u b) says left = let same : n ≡ length b = cc in (rw same, (refl, left))
+  answer-counted n (refused k) says left = absurd (let z : _≡_ {A = ℕ} 0 1 = cc in omega arith)
+  answer-counted n (given u b) says left = let same : n ≡ length b = cc in (rw same, (refl, left))
 
   refusal-counted : (n : ℕ) (y : Answer Unit (List ℕ)) → refused n ≡ counted y → out′ ≡ outputAfter y out
       → (refused n ≡ counted (about (answers next) y)) × ((d ≡ afterReceive d (about (answers next) y)) × (out′ ≡ outputAfter (about (answers next) y) out))
@@ -69,7 +69,7 @@ module _ (d next : Device) (out out′ : List ℕ) where
   module _ (x : Answer Unit (List ℕ)) (left : out′ ≡ outputAfter (within out x) out) where
     pub answer-gives : (n : ℕ) → writeResult (WriteAnswer·of.Length n) ≡ counted (within out x) → Gives d out (about (answers next) x) (record { device = next; outcome = Outcome·of.Answer n }) out′
     unfolding receiveResult writeResult
-    answer-gives n says = rw (within-about (answers next) out x) (answer-told n (within out x) says left)
+    answer-gives n says = rw (within-about (answers next) out x) (answer-counted n (within out x) says left)
 
     pub refusal-gives : (r : Refusal) → writeResult (WriteAnswer·of.Refused r) ≡ counted (within out x) → Gives d out (about (answers next) x) (record { device = d; outcome = Outcome·of.Refused r }) out′
     unfolding receiveResult writeResult

@@ -1,6 +1,6 @@
 -- What a caller needs to know of a link, whichever it is: carried by each link's checks, which come before its bytes.
 use Prim.Native.Nat.{ℕ, _+_, _≤_, _<_}
-use mathlib.Core.Bool.{Bool, true, false, not, or-true}
+use mathlib.Core.Bool.{true, false, not, or-true}
 use mathlib.Core.List.{List, [], _++_}
 use mathlib.Core.Path.{_≡_, refl}
 use native.Mathlib.Omega.{arith}
@@ -10,7 +10,7 @@ use lib.ListN.{length, length-append, length-take}
 use Rattle.message_rules.specs.Answer.{Answer, refused, given, passed, require, within, after, written}
 use Rattle.message_rules.specs.Data.{errorBytes}
 use Rattle.message_rules.specs.Checks.{payloadLegal, fieldChecks, errorTold, writable, writeChecks}
-use Rattle.message_rules.specs.Kinds.{inside, payloadRange, errorLength, isEvent, typeNumber}
+use Rattle.message_rules.specs.Kinds.{inside, payloadRange, errorLength, isEvent}
 use Rattle.message_rules.specs.declared.Carries.{Carries}
 use Rattle.message_rules.specs.declared.Kind.{Kind}
 use Rattle.message_rules.specs.declared.Kind.the-variants.{Telecommand, TelecommandAck, TelecommandNack, TelemetryRequest, TelemetryResponse, TelemetryNack, Event}

@@ -10,7 +10,7 @@ use Rattle.message_rules.specs.declared.ErrorByte.the-variants.{Told}
 use Rattle.message_rules.specs.declared.Kind.{Kind}
 use Rattle.message_rules.specs.declared.Kind.the-variants.{Telecommand, TelecommandAck, TelecommandNack, TelemetryRequest}
 use Rattle.message_rules.specs.declared.Message.{Message}
-use Rattle.can_rules.specs.Can.{frameSize, canWrite}
+use Rattle.can_rules.specs.Can.{canWrite}
 use Rattle.csp_rules.specs.Csp.{cspRead}
 use Rattle.serial_rules.specs.Frames.{frameRead, frameWrite}
 use Rattle.serial_rules.specs.declared.SerialLink.the-variants.{Uart, Rs485}
@@ -39,7 +39,7 @@ abbrev pub commandBytes : ℕ → List ℕ
 commandBytes n = bytesOr [] (canWrite (plain Telecommand 12 16 17) (replicate n 0))
 
 abbrev pub lastDlc : List ℕ → ℕ
-lastDlc b = getD b (length b - frameSize + 4) 0
+lastDlc b = getD b (length b - 13 + 4) 0
 
 -- P11 and P12: a file of 300 bytes, and a unit with own address 31 that its setup opened, with 303 bytes to store in.
 abbrev pub file : List ℕ
@@ -111,10 +111,10 @@ cases =
     -- P7: RS485 tlmreq 128 from 31 to 255: `1F 80 80 1F 1F FF 1F FF`.
     ∷ (frameWrite Rs485 (plain TelemetryRequest 128 31 255) [] ≡ written (0x1F ∷ 0x80 ∷ 0x80 ∷ 0x1F ∷ 0x1F ∷ 0xFF ∷ 0x1F ∷ 0xFF ∷ []))
     -- P8: CAN frames and last DLC: 13 bytes 2 and 7; 14 bytes 3 and 1; 18 bytes 3 and 5; 256 bytes 37 and 5.
-    ∷ ((length (commandBytes 13) ≡ frameSize * 2) × (lastDlc (commandBytes 13) ≡ 7))
-    ∷ ((length (commandBytes 14) ≡ frameSize * 3) × (lastDlc (commandBytes 14) ≡ 1))
-    ∷ ((length (commandBytes 18) ≡ frameSize * 3) × (lastDlc (commandBytes 18) ≡ 5))
-    ∷ ((length (commandBytes 256) ≡ frameSize * 37) × (lastDlc (commandBytes 256) ≡ 5))
+    ∷ ((length (commandBytes 13) ≡ 13 * 2) × (lastDlc (commandBytes 13) ≡ 7))
+    ∷ ((length (commandBytes 14) ≡ 13 * 3) × (lastDlc (commandBytes 14) ≡ 1))
+    ∷ ((length (commandBytes 18) ≡ 13 * 3) × (lastDlc (commandBytes 18) ≡ 5))
+    ∷ ((length (commandBytes 256) ≡ 13 * 37) × (lastDlc (commandBytes 256) ≡ 5))
     -- P9: tc 12 from 16 to 17: identifier 0x010C1011.
     ∷ (fromBytes (take 4 (commandBytes 0)) ≡ 0x010C1011)
     -- P10: CSP `02 0C 00`: tcack 12; `02 0C 01`: 7.

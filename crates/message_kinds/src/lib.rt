@@ -64,7 +64,7 @@ pub fn is_nack(kind: Kind) -> bool
     }
 }
 
-// An event has neither error byte nor index.
+// Whether it is an event, which has neither error byte nor index.
 pub fn is_event(kind: Kind) -> bool
     ensures { λ r. ⌜ r ≡ isEvent kind ⌝ }
 {

@@ -109,7 +109,7 @@ isNack TelemetryResponse = false
 isNack TelemetryNack = true
 isNack Event = false
 
--- An event has neither error byte nor index.
+-- Whether it is an event, which has neither error byte nor index.
 abbrev pub isEvent : Kind → Bool
 isEvent Telecommand = false
 isEvent TelecommandAck = false

@@ -32,7 +32,7 @@ pub(crate) fn make(call: Call, bytes: &[u8], kept: Kept) -> Kept {
         print::none_line();
         return kept;
     }
-    let length = lent_store(call);
+    let length = lent_store_length(call);
     if length == ABSENT {
         return use_store(call, bytes, kept);
     }
@@ -64,7 +64,7 @@ fn made(call: Call) -> UnitAnswer {
 }
 
 // The length of a store that is lent to this call alone.
-fn lent_store(call: Call) -> usize {
+fn lent_store_length(call: Call) -> usize {
     if call[0] == call::RECEIVE {
         return call[3];
     }

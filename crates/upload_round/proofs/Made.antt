@@ -7,9 +7,9 @@ use lib.ListN.{length}
 use mathlib.Core.Path.{_≡_, refl, _∙_}
 use Rattle.message_rules.specs.Answer.{Answer, refused, given, refusalNumber, passed, failed, within, verdictResult}
 use Rattle.message_rules.specs.declared.Refusal.{Refusal}
-use Rattle.message_rules.specs.declared.Verdict.the-variants.{Passed, Refused}
+use Rattle.message_rules.specs.declared.Verdict.the-variants.{Passed}
 use Rattle.device_rules.specs.Answers.{afterReceive}
-use Rattle.device_rules.specs.Receive.{Reply, receive}
+use Rattle.device_rules.specs.Receive.{Reply}
 use Rattle.device_rules.specs.Work.{work, storeAfter, afterWork}
 use Rattle.device_rules.specs.declared.Device.{Device}
 use Rattle.sender_rules.specs.Hearing.{hear}

@@ -1,7 +1,7 @@
 -- An accepted setup and a started sender stand at the head of the table. Carried by taking the unit's and the sender's own definitions
 -- apart: which tests passed, and what was made then.
 use Prim.Native.Nat.{ℕ, _≤_, min, zero-le}
-use mathlib.Core.Bool.{Bool, true, false, cond, not, _||_}
+use mathlib.Core.Bool.{Bool, true, false, cond, not}
 use mathlib.Core.List.{List, []}
 use mathlib.Core.Path.{_≡_, refl, sym, ap, _∙_}
 use native.Mathlib.Omega.{arith}
@@ -17,8 +17,7 @@ use Rattle.link_rules.specs.declared.Link.{Link}
 use Rattle.link_rules.specs.declared.Link.the-variants.{Uart, Rs485, Can, Csp}
 use Rattle.link_rules.proofs.Laws.{within-given}
 use Rattle.device_rules.specs.declared.Device.{Device}
-use Rattle.device_rules.specs.Faults.{fault, setupFault, commandFault}
-use Rattle.device_rules.specs.declared.Fault.{Fault}
+use Rattle.device_rules.specs.Faults.{setupFault, commandFault}
 use Rattle.device_rules.specs.declared.Fault.the-variants.{None}
 use Rattle.device_rules.specs.Commands.{newTransfer, transferDone, commandDone, afterCommand}
 use Rattle.device_rules.specs.Device.{emptyBuffer, withTransfer}

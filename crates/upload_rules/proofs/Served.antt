@@ -2,19 +2,19 @@
 -- by the faults of `Faults` and by the exchange over the link.
 use Prim.Native.Nat.{ℕ, _+_, _*_, _-_, _/_, _%_, _≤_, _<_, min}
 use mathlib.Core.Bool.{Bool, true, false, cond}
-use mathlib.Core.List.{List, [], _∷_, _++_}
+use mathlib.Core.List.{List, [], _++_}
 use mathlib.Core.Path.{_≡_, refl, _∙_}
 use native.Mathlib.Omega.{arith}
 use borrow.Author.Tests.{eq-eqb, ne-eqb}
 use lib.Dec.{eqb}
-use lib.ListN.{length, getD, take, drop}
+use lib.ListN.{length, take, drop}
 use Rattle.message_rules.specs.Answer.{given, require, about}
 use Rattle.message_rules.specs.Checks.{idLegal, payloadLegal, errorLegal, fieldChecks, errorTold}
 use Rattle.message_rules.specs.Kinds.{inside, isEvent, carriedOn}
 use Rattle.message_rules.specs.declared.Kind.{Kind}
 use Rattle.message_rules.specs.declared.Kind.the-variants.{TelecommandAck, TelecommandNack, TelemetryResponse}
 use Rattle.message_rules.specs.declared.Message.{Message}
-use Rattle.little_endian_rules.specs.LittleEndian.{toBytes, fromBytes}
+use Rattle.little_endian_rules.specs.LittleEndian.{toBytes}
 use Rattle.file_rules.specs.File.{frameCount, fileFrame}
 use Rattle.link_rules.specs.Link.{linkCarried, linkRead, linkWrite}
 use Rattle.link_rules.specs.declared.Link.{Link}
@@ -24,7 +24,7 @@ use Rattle.device_rules.specs.declared.Device.{Device}
 use Rattle.device_rules.specs.declared.Phase.the-variants.{Open, Finished}
 use Rattle.device_rules.specs.Commands.{takeDone, frameDone, transferDone, commandDone, afterCommand}
 use Rattle.device_rules.specs.Receive.{answers, answerTo, infoBytes, commandAnswer, commandReply, telemetryReply, kindReply, messageReply, receive}
-use Rattle.sender_rules.specs.Hearing.{fits, takenError, infoNumber, infoSize, infoChecksum, compared, confirmed, informed, ackMeaning, nackMeaning, infoMeaning, kindMeaning, meaning}
+use Rattle.sender_rules.specs.Hearing.{fits, takenError, ackMeaning, nackMeaning, infoMeaning, kindMeaning, meaning}
 use Rattle.sender_rules.specs.Sender.{requestKind, requestId}
 use Rattle.sender_rules.specs.declared.Meaning.{Meaning}
 use Rattle.sender_rules.specs.declared.Meaning.the-variants.{Stay, Forward}

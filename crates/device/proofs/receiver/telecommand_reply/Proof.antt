@@ -1,5 +1,5 @@
 -- Carried by the command: its fault, and the unit as it leaves it.
-use Rattle.device.proofs.Replies.{equal-gives, telecommand-reply}
+use Rattle.device.proofs.Replies.{equal-gives, command-reply}
 use borrow.Author.Needs.{needs}
 use Rattle.device.proofs.receiver.telecommand_reply.Statement.{statement}
 use Rattle.device.proofs.receiver.telecommand_reply.Tie as tie
@@ -22,7 +22,7 @@ same-length c = search needs
 returns : tie.Need-returns
 returns c =
     let commanded = c .before .before .before .before .before .before .before .carry-out .ensures in
-    equal-gives _ _ _ _ _ _ (telecommand-reply _ _ _ _ _ _ _ (commanded .0) (commanded .1) (c .before .before .before .before .before .command-answer .ensures)) (c .before .before .send .ensures)
+    equal-gives _ _ _ _ _ _ (command-reply _ _ _ _ _ _ _ (commanded .0) (commanded .1) (c .before .before .before .before .before .command-answer .ensures)) (c .before .before .send .ensures)
 
 pub telecommand-reply-spec : {M : Type 1} → statement M
 telecommand-reply-spec =

@@ -6,7 +6,7 @@ use lib.ListN.{length}
 use Rattle.message_rules.specs.Answer.{passed, verdictResult, writeResult, after, within, counted, outputAfter}
 use Rattle.message_rules.specs.Checks.{writeChecks}
 use Rattle.message_rules.proofs.Checks.{payload-most}
-use Rattle.serial_rules.specs.Frames.{serialCarries, frameWrite}
+use Rattle.serial_rules.specs.Frames.{frameWrite}
 use Rattle.serial_writer.proofs.writer.write.Statement.{statement}
 use Rattle.serial_writer.proofs.writer.write.Tie as tie
 
