@@ -1,6 +1,6 @@
-// Take frame: its faults, those of the number and of the buffer last.
+// Take frame: its faults, in the order of the table, and the two tests of the number.
 ghost use mathlib.Core.Path.{_≡_};
-ghost use Rattle.device_rules.specs.Faults.{takeFault, numberFault, bufferFault};
+ghost use Rattle.device_rules.specs.Faults.{isLastStored, isNext, takeFault};
 use crate::phase::is_finished;
 use crate::phase::is_idle;
 use device_rules::Fault;
@@ -20,37 +20,33 @@ pub(crate) fn take_fault(transfer: Transfer, payload: &[u8]) -> Fault
         return Fault::Nack(6, 0);
     }
     if is_finished(phase) {
-        return Fault::Nack(3, 0);
+        return Fault::Nack(3, 2);
     }
-    number_fault(
-        transfer,
-        little_endian::u16_from_bytes(payload[0], payload[1]),
-    )
-}
-
-// The number must be the next.
-fn number_fault(transfer: Transfer, number: u16) -> Fault
-    ensures { λ r. ⌜ r ≡ numberFault transfer number ⌝ }
-{
-    if number == 0xFFFF {
-        return Fault::Nack(3, 0);
+    let number = little_endian::u16_from_bytes(payload[0], payload[1]);
+    if is_last_stored(transfer, number) {
+        return Fault::Nack(3, 1);
     }
-    if number != std::num::wrapping_add_u16(transfer.number, 1) {
-        return Fault::Nack(3, 0);
+    if !is_next(transfer, number) {
+        return Fault::Nack(3, 3);
     }
-    buffer_fault(transfer)
-}
-
-// The buffer must have a frame, of no more bytes than remain.
-fn buffer_fault(transfer: Transfer) -> Fault
-    ensures { λ r. ⌜ r ≡ bufferFault transfer ⌝ }
-{
     let length = device_state::buffered_length(transfer);
     if length == 0 {
         return Fault::Nack(7, 0);
     }
     if (transfer.size as usize) < (transfer.stored as usize) + length {
-        return Fault::Nack(3, 0);
+        return Fault::Nack(3, 4);
     }
     Fault::None
+}
+
+fn is_last_stored(transfer: Transfer, number: u16) -> bool
+    ensures { λ r. ⌜ r ≡ isLastStored transfer number ⌝ }
+{
+    number == transfer.number && number != 0xFFFF
+}
+
+fn is_next(transfer: Transfer, number: u16) -> bool
+    ensures { λ r. ⌜ r ≡ isNext transfer number ⌝ }
+{
+    number != 0xFFFF && number == std::num::wrapping_add_u16(transfer.number, 1)
 }

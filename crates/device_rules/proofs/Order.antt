@@ -1,29 +1,39 @@
 -- The order of the unit's tests and what each looks at, for any unit: each law computes the table of Faults from what it supposes.
-use Prim.Native.Nat.{ℕ, _+_, _*_, _%_, _≤_, _<_}
-use mathlib.Core.Bool.{Bool, true, false, _||_}
+use Prim.Native.Nat.{ℕ, _+_, _*_, _-_, _%_, _≤_, _<_}
+use mathlib.Core.Bool.{Bool, true, false, cond, not, _&&_, _||_, and-false}
 use mathlib.Core.List.{List, [], _∷_}
-use mathlib.Core.Path.{_≡_, refl}
+use mathlib.Core.Path.{_≡_, refl, subst}
 use native.Mathlib.Omega.{arith}
-use borrow.Author.Tests.{eq-eqb, ne-eqb, lt-ltb, le-ltb}
-use lib.Dec.{eqb}
+use borrow.Author.Tests.{eq-eqb, ne-eqb, lt-ltb, le-ltb, eqb-true, eqb-false}
+use lib.Dec.{ltb, eqb}
 use lib.ListN.{length}
 use Rattle.little_endian_rules.specs.LittleEndian.{fromBytes}
 use Rattle.file_rules.specs.File.{sizeLegal}
-use Rattle.device_rules.specs.Device.{isIdle, isOpen, isFinished}
+use Rattle.device_rules.specs.Device.{isOpen, bufferedFrame}
 use Rattle.device_rules.specs.Commands.{newTransfer, transferDone, commandDone}
-use Rattle.device_rules.specs.Faults.{fault, setupFault, numberFault, takeFault, commandFault}
+use Rattle.device_rules.specs.Faults.{fault, setupFault, isLastStored, isNext, takeFault, frameFault, cancelFault, commandFault}
 use Rattle.device_rules.specs.declared.Device.{Device}
 use Rattle.device_rules.specs.declared.Phase.the-variants as Phase·of
+use Rattle.device_rules.specs.declared.Fault.{Fault}
 use Rattle.device_rules.specs.declared.Fault.the-variants.{None, Nack}
 
 either : (b : Bool) → (b || true) ≡ true
 either true = refl
 either false = refl
 
-one-fault : (e : ℕ) (b : Bool) → fault e b (Nack e 0) ≡ Nack e 0
+-- An index other than 0 stands in a nack 3 of take frame, and nowhere else.
+abbrev IndexFits : Bool → Fault → Type 0
+IndexFits take None = Unit
+IndexFits take (Nack e i) = ltb 0 i ≡ (take && eqb e 3)
+
+row : (take : Bool) (e i : ℕ) (b : Bool) (rest : Fault) → IndexFits take (Nack e i) → IndexFits take rest → IndexFits take (fault e i b rest)
 unfolding fault
-one-fault e true = refl
-one-fault e false = refl
+row take e i true rest here after = here
+row take e i false rest here after = after
+
+one-of : (take b : Bool) (f g : Fault) → IndexFits take f → IndexFits take g → IndexFits take (cond b f g)
+one-of take true f g one other = one
+one-of take false f g one other = other
 
 -- The size in a setup: "size, 4 bytes", each of which counts.
 module _ (a b c e : ℕ) where
@@ -60,22 +70,76 @@ module _ (a b c e : ℕ) where
           let whole : fromBytes (a ∷ b ∷ c ∷ e ∷ []) ≡ size = omega arith in
           simp (still, ended, whole, legal, le-ltb store size h)
 
--- Take frame, with nothing pending.
-module _ (d : Device) (store : ℕ) (still : d .transfer .pending ≡ false) where
-  -- "3 [..] number 0xFFFF", also where it would be the next.
-  pub take-last : isIdle (d .transfer .phase) ≡ false → commandFault d store 21 (0xFF ∷ 0xFF ∷ []) ≡ Nack 3 0
-  unfolding commandFault takeFault numberFault fault fromBytes
-  take-last begun = simp (begun, still) (one-fault 3 (isFinished (d .transfer .phase)))
+-- Take frame of a number, with nothing pending.
+module _ (d : Device) (store : ℕ) (still : d .transfer .pending ≡ false) (p : List ℕ) (two : length p ≡ 2) where
+  abbrev number : ℕ
+  number = fromBytes p
 
-  module _ (p : List ℕ) (two : length p ≡ 2) where
-    -- "3 finished", whatever the number and the buffer are.
-    pub take-finished : d .transfer .phase ≡ Phase·of.Finished → commandFault d store 21 p ≡ Nack 3 0
-    unfolding commandFault takeFault fault
-    take-finished h = simp (eq-eqb (length p) 2 two, h, still)
+  abbrev own : ℕ
+  own = d .transfer .number
 
-    -- "3 [..] or not the next; 7 buffer empty": 3 whatever the buffer is.
-    pub take-other : isIdle (d .transfer .phase) ≡ false → (fromBytes p ≡ (d .transfer .number + 1) % 65536 → ⊥) → commandFault d store 21 p ≡ Nack 3 0
-    unfolding commandFault takeFault numberFault fault
-    take-other begun other =
-        let next = (d .transfer .number + 1) % 65536 in
-        simp (eq-eqb (length p) 2 two, begun, ne-eqb (fromBytes p) next other, still, one-fault 3 (eqb (fromBytes p) 0xFFFF)) (one-fault 3 (isFinished (d .transfer .phase)))
+  -- "2, the transfer is finished", whatever the number and the buffer are.
+  pub take-finished : d .transfer .phase ≡ Phase·of.Finished → commandFault d store 21 p ≡ Nack 3 2
+  unfolding commandFault takeFault fault
+  take-finished h = simp (eq-eqb (length p) 2 two, h, still)
+
+  module _ (begun : d .transfer .phase ≡ Phase·of.Open) where
+    -- "3, the number is [..] not the next", whatever the buffer is: one stored before the last, or one still to come;
+    pub take-other : (number ≡ own → ⊥) → (number ≡ (own + 1) % 65536 → ⊥) → commandFault d store 21 p ≡ Nack 3 3
+    unfolding commandFault takeFault isLastStored isNext fault
+    take-other last next = simp (eq-eqb (length p) 2 two, begun, still, ne-eqb number own last, ne-eqb number ((own + 1) % 65536) next, and-false (not (eqb number 0xFFFF)))
+
+    -- "0xFFFF", also where it is the unit's own, since nothing is stored yet, and also where it would be the next;
+    pub take-last : number ≡ 0xFFFF → commandFault d store 21 p ≡ Nack 3 3
+    unfolding commandFault takeFault isLastStored isNext fault
+    take-last h = simp (eq-eqb (length p) 2 two, begun, still, h, and-false (eqb 0xFFFF own))
+
+    -- "1, the number is the one last stored", whatever the buffer is.
+    pub take-repeated : number ≡ own → (own ≡ 0xFFFF → ⊥) → commandFault d store 21 p ≡ Nack 3 1
+    unfolding commandFault takeFault isLastStored fault
+    take-repeated same some = simp (eq-eqb (length p) 2 two, begun, still, same, eq-eqb own own refl, ne-eqb own 0xFFFF some)
+
+    -- The next number: the buffer's tests are left.
+    module _ (next : number ≡ (own + 1) % 65536) (some : number < 0xFFFF) where
+      abbrev buffered : ℕ
+      buffered = length (bufferedFrame (d .transfer))
+
+      abbrev remains : ℕ
+      remains = d .transfer .size - d .transfer .stored
+
+      pub take-next : commandFault d store 21 p ≡ fault 7 0 (eqb buffered 0) (fault 3 4 (ltb remains buffered) None)
+      unfolding commandFault takeFault isLastStored isNext fault
+      take-next = simp (eq-eqb (length p) 2 two, begun, still, ne-eqb number own (omega arith), ne-eqb number 0xFFFF (omega arith), eq-eqb number ((own + 1) % 65536) next)
+
+      -- "7 buffer empty",
+      pub take-empty : buffered ≡ 0 → commandFault d store 21 p ≡ Nack 7 0
+      unfolding fault
+      take-empty none = rw (take-next, none)
+
+      -- "4, the buffered frame is longer than what remains".
+      pub take-above : remains < buffered → commandFault d store 21 p ≡ Nack 3 4
+      unfolding fault
+      take-above h = rw (take-next, ne-eqb buffered 0 (omega arith), lt-ltb remains buffered h)
+
+-- "In this transfer": after a setup every number but the first is 3, whatever the transfer before it had stored.
+pub take-anew : (d : Device) (store : ℕ) (q p : List ℕ) → length p ≡ 2 → (fromBytes p ≡ 0 → ⊥) → commandFault (commandDone d 20 q) store 21 p ≡ Nack 3 3
+unfolding commandDone transferDone newTransfer
+take-anew d store q p two other = by (eqb (fromBytes p) 0xFFFF) refl
+  where
+    by : (b : Bool) → eqb (fromBytes p) 0xFFFF ≡ b → commandFault (commandDone d 20 q) store 21 p ≡ Nack 3 3
+    by true e = take-last (commandDone d 20 q) store refl p two refl (eqb-true (fromBytes p) 0xFFFF e)
+    by false e = take-other (commandDone d 20 q) store refl p two refl (eqb-false (fromBytes p) 0xFFFF e) other
+
+-- "All other nacks keep index 0": row by row of the table.
+pub index-told : (d : Device) (store id : ℕ) (p : List ℕ) (e i : ℕ) → commandFault d store id p ≡ Nack e i → ltb 0 i ≡ (eqb id 21 && eqb e 3)
+unfolding commandFault setupFault takeFault frameFault cancelFault
+index-told d store id p e i h = subst (IndexFits (eqb id 21)) h (by (eqb id 21) refl)
+  where
+    by : (b : Bool) → eqb id 21 ≡ b → IndexFits (eqb id 21) (commandFault d store id p)
+    by true is = rw (eqb-true id 21 is) (row true _ _ _ _ refl (row true _ _ _ _ refl (row true _ _ _ _ refl (row true _ _ _ _ refl (row true _ _ _ _ refl (row true _ _ _ _ refl (row true _ _ _ _ refl (row true _ _ _ _ refl tt))))))))
+    by false other =
+        rw other
+        (one-of false (eqb id 20) _ _ (row false _ _ _ _ refl (row false _ _ _ _ refl (row false _ _ _ _ refl (row false _ _ _ _ refl tt))))
+        (one-of false (eqb id 22) _ _ (row false _ _ _ _ refl (row false _ _ _ _ refl (row false _ _ _ _ refl tt)))
+        (one-of false (eqb id 23) _ _ (row false _ _ _ _ refl tt)
+        refl)))

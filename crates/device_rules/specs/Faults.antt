@@ -1,6 +1,6 @@
--- Why a command is not carried out (document 01, "The unit", its table): the error byte of each, first that applies.
+-- Why a command is not carried out (document 01, "The unit", its table): error byte and error index of each reason, first that applies.
 use Prim.Native.Nat.{ℕ, _+_, _-_, _%_}
-use mathlib.Core.Bool.{Bool, true, false, cond, not, _||_}
+use mathlib.Core.Bool.{Bool, true, false, cond, not, _&&_, _||_}
 use mathlib.Core.List.{List}
 use lib.Dec.{ltb, eqb}
 use lib.ListN.{length}
@@ -12,58 +12,59 @@ use Rattle.device_rules.specs.declared.Transfer.{Transfer}
 use Rattle.device_rules.specs.declared.Fault.{Fault}
 use Rattle.device_rules.specs.declared.Fault.the-variants.{None, Nack}
 
--- One reason in front of those that follow it. "The error index is 0."
-unfoldable pub fault : ℕ → Bool → Fault → Fault
-fault e true rest = Nack e 0
-fault e false rest = rest
+-- One reason in front of those that follow it, with its error byte and its error index.
+unfoldable pub fault : ℕ → ℕ → Bool → Fault → Fault
+fault e i true rest = Nack e i
+fault e i false rest = rest
 
 -- "20 setup | size, 4 bytes | 2 length; 6 pending; 7 open; 3 size 0, above the store or above 16,776,960." The store is the one lent to
 -- the call, of this many bytes.
 unfoldable pub setupFault : Transfer → ℕ → List ℕ → Fault
 setupFault t store p =
-    fault 2 (not (eqb (length p) 4))
-    (fault 6 (t .pending)
-    (fault 7 (isOpen (t .phase))
-    (fault 3 (not (sizeLegal (fromBytes p)) || ltb store (fromBytes p))
+    fault 2 0 (not (eqb (length p) 4))
+    (fault 6 0 (t .pending)
+    (fault 7 0 (isOpen (t .phase))
+    (fault 3 0 (not (sizeLegal (fromBytes p)) || ltb store (fromBytes p))
     None)))
 
--- Take frame's tests of the buffer: "7 buffer empty; 3 buffer above what remains."
-unfoldable pub bufferFault : Transfer → Fault
-bufferFault t =
-    fault 7 (eqb (length (bufferedFrame t)) 0)
-    (fault 3 (ltb (t .size - t .stored) (length (bufferedFrame t)))
-    None)
+-- Document 02, ticket 1: "the one last stored (in this transfer, never 0xFFFF)". It is the unit's number, which is 0xFFFF until this transfer
+-- has stored a frame.
+unfoldable pub isLastStored : Transfer → ℕ → Bool
+isLastStored t number = eqb number (t .number) && not (eqb number 0xFFFF)
 
--- Its tests of the number, "3 [..] number 0xFFFF or not the next", and then of the buffer.
-unfoldable pub numberFault : Transfer → ℕ → Fault
-numberFault t number =
-    fault 3 (eqb number 0xFFFF)
-    (fault 3 (not (eqb number ((t .number + 1) % 65536)))
-    (bufferFault t))
+-- The opposite of "number 0xFFFF or not the next".
+unfoldable pub isNext : Transfer → ℕ → Bool
+isNext t number = not (eqb number 0xFFFF) && eqb number ((t .number + 1) % 65536)
 
 -- "21 take frame | number, 2 bytes | 2 length; 7 idle; 6 pending; 3 finished, or number 0xFFFF or not the next; 7 buffer empty; 3 buffer
--- above what remains."
+-- above what remains." Document 02, ticket 1: "In a take-frame nack 3 the error index becomes the first that applies: 2, the transfer is
+-- finished; 1, the number is the one last stored (in this transfer, never 0xFFFF); 3, the number is 0xFFFF or not the next; 4, the buffered
+-- frame is longer than what remains."
 unfoldable pub takeFault : Transfer → List ℕ → Fault
 takeFault t p =
-    fault 2 (not (eqb (length p) 2))
-    (fault 7 (isIdle (t .phase))
-    (fault 6 (t .pending)
-    (fault 3 (isFinished (t .phase))
-    (numberFault t (fromBytes p)))))
+    fault 2 0 (not (eqb (length p) 2))
+    (fault 7 0 (isIdle (t .phase))
+    (fault 6 0 (t .pending)
+    (fault 3 2 (isFinished (t .phase))
+    (fault 3 1 (isLastStored t (fromBytes p))
+    (fault 3 3 (not (isNext t (fromBytes p)))
+    (fault 7 0 (eqb (length (bufferedFrame t)) 0)
+    (fault 3 4 (ltb (t .size - t .stored) (length (bufferedFrame t)))
+    None)))))))
 
 -- "22 frame | 1..256 bytes | 2 length; 7 idle or finished; 6 pending."
 unfoldable pub frameFault : Transfer → List ℕ → Fault
 frameFault t p =
-    fault 2 (eqb (length p) 0 || ltb 256 (length p))
-    (fault 7 (not (isOpen (t .phase)))
-    (fault 6 (t .pending)
+    fault 2 0 (eqb (length p) 0 || ltb 256 (length p))
+    (fault 7 0 (not (isOpen (t .phase)))
+    (fault 6 0 (t .pending)
     None))
 
 -- "23 cancel | none | 2 length."
 unfoldable pub cancelFault : List ℕ → Fault
-cancelFault p = fault 2 (not (eqb (length p) 0)) None
+cancelFault p = fault 2 0 (not (eqb (length p) 0)) None
 
--- "Any other ID: error 1."
+-- "Any other ID: error 1." "All other nacks keep index 0" (document 02, ticket 1).
 unfoldable pub commandFault : Device → ℕ → ℕ → List ℕ → Fault
 commandFault d store id p =
     cond (eqb id 20) (setupFault (d .transfer) store p)

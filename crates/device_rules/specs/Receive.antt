@@ -70,7 +70,7 @@ commandReply d m p f = about (answers (afterCommand d (m .id) p f)) (linkWrite (
 abbrev pub telecommandReply : Device → ℕ → Message → List ℕ → Answer Reply (List ℕ)
 telecommandReply d store m p = commandReply d m p (commandFault d store (m .id) p)
 
--- "150 frame info | request | never." "Any other ID: error 1."
+-- "150 frame info | request | never." "Any other ID: error 1." "All other nacks keep index 0" (document 02, ticket 1).
 unfoldable pub telemetryReply : Device → Message → Answer Reply (List ℕ)
 telemetryReply d m =
     cond (eqb (m .id) 150)

@@ -86,12 +86,13 @@ NothingLost l =
 unfoldable pub askedAgain : Link → World Sender
 askedAgain l = run (sending file) (afterRounds l (replicate 6 (withWork Fate·of.Delivered) ++ (withWork Fate·of.AnswerLost ∷ []))) (works shared ∷ asks shared output ∷ [])
 
--- "The repeat after the work step gets nack 3, store unchanged." On CAN the nack does not tell its number.
+-- "The repeat after the work step gets nack 3, store unchanged." Its index is document 02's, ticket 1: "2, the transfer is finished". On CAN the
+-- nack tells neither.
 abbrev pub AnswerLost : Link → Type 0
 AnswerLost l =
     let w = askedAgain l in
     let v = does (sending file) w (arrives (w .request) shared output) in
-    let nack : Message = record { kind = TelecommandNack; id = 21; source = 31; destination = 255; error = Told 3; index = 0 } in
+    let nack : Message = record { kind = TelecommandNack; id = 21; source = 31; destination = 255; error = Told 3; index = 2 } in
     (linkRead l (v .answer) ≡ given (linkCarried l nack) []) × (w .store ≡ fullStore) × (v .store ≡ fullStore)
 
 abbrev pub cases : List (Type 0)

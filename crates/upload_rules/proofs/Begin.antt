@@ -51,10 +51,10 @@ addresses Csp s t own h e = tt
 setup-passed : (t : Transfer) (store : ℕ) (p : List ℕ) → setupFault t store p ≡ None → fromBytes p ≤ store
 unfolding setupFault
 setup-passed t store p e =
-    let two = fault-none 2 _ _ e in
-    let six = fault-none 6 (t .pending) _ (two .1) in
-    let seven = fault-none 7 _ _ (six .1) in
-    let three = fault-none 3 _ None (seven .1) in
+    let two = fault-none 2 0 _ _ e in
+    let six = fault-none 6 0 (t .pending) _ (two .1) in
+    let seven = fault-none 7 0 _ _ (six .1) in
+    let three = fault-none 3 0 _ None (seven .1) in
     ltb-false store (fromBytes p) (both-false (not (sizeLegal (fromBytes p))) _ (three .0) .1)
 
 -- The unit that answered the setup.

@@ -77,27 +77,27 @@ module _ (d : Device) (s t : ℕ) (a : Addressed (d .link) s t (d .own)) (file :
   asked stage = requestRead l s t stage
 
   -- An answer to it.
-  abbrev answer-to : Stage → Kind → ℕ → Message
-  answer-to stage k e = answerOf l own (asked stage) k e 0
+  abbrev answer-to : Stage → Kind → ℕ → ℕ → Message
+  answer-to stage k e index = answerOf l own (asked stage) k e index
 
   module _ (stage : Stage) (since rounds : ℕ) (b p : List ℕ) (reads : linkRead l b ≡ given (asked stage) p) where
-    served : (j : ℕ) (buffer : List ℕ) (buffered : ℕ) (pending : Bool) (d′ : Device) (k : Kind) (e : ℕ) (q : List ℕ) (x : Meaning)
-        → kindReply (requestKind stage) (unit j buffer buffered pending) store (asked stage) p ≡ about (answers d′) (linkWrite l (answer-to stage k e) q)
-        → Plain (answer-to stage k e) q
-        → kindMeaning k (senderAt l s t n i stage since rounds Running) file (linkCarried l (answer-to stage k e)) q ≡ x
+    served : (j : ℕ) (buffer : List ℕ) (buffered : ℕ) (pending : Bool) (d′ : Device) (k : Kind) (e index : ℕ) (q : List ℕ) (x : Meaning)
+        → kindReply (requestKind stage) (unit j buffer buffered pending) store (asked stage) p ≡ about (answers d′) (linkWrite l (answer-to stage k e index) q)
+        → Plain (answer-to stage k e index) q
+        → kindMeaning k (senderAt l s t n i stage since rounds Running) file (linkCarried l (answer-to stage k e index)) q ≡ x
         → Served file (senderAt l s t n i stage since rounds Running) (unit j buffer buffered pending) store b d′ x
     unfolding receive messageReply about meaning fits linkCarried carriedOn
-    served j buffer buffered pending d′ k e q x reply plain means =
-        let back = answer-arrives l s t own (asked stage) k e 0 q a plain in
-        let id : linkCarried l (answer-to stage k e) .id ≡ requestId stage =
-        id-arrives l (answer-to stage k e) (plain .plain) ∙ id-arrives l (requestOf (requestKind stage) (requestId stage) s t) (no-event stage) in
+    served j buffer buffered pending d′ k e index q x reply plain means =
+        let back = answer-arrives l s t own (asked stage) k e index q a plain in
+        let id : linkCarried l (answer-to stage k e index) .id ≡ requestId stage =
+        id-arrives l (answer-to stage k e index) (plain .plain) ∙ id-arrives l (requestOf (requestKind stage) (requestId stage) s t) (no-event stage) in
         record {
-          answer = answer-to stage k e;
+          answer = answer-to stage k e index;
           payload = q;
           bytes = back .0;
           underway = back .1;
           gives = rw (reads, request-taken l s t own (requestId stage) (requestKind stage) a, reply, back .1 .wrote);
-          means = rw (back .1 .reads, eq-eqb (linkCarried l (answer-to stage k e) .id) (requestId stage) id, answer-fits l s t own (requestId stage) (requestKind stage) k e 0 a) means;
+          means = rw (back .1 .reads, eq-eqb (linkCarried l (answer-to stage k e index) .id) (requestId stage) id, answer-fits l s t own (requestId stage) (requestKind stage) k e index a) means;
         }
 
   module _ (since rounds : ℕ) (b buffer : List ℕ) (buffered : ℕ) where
@@ -109,14 +109,14 @@ module _ (d : Device) (s t : ℕ) (a : Addressed (d .link) s t (d .own)) (file :
         → Served file (sender Frame) (unit i buffer buffered false) store b (unit i (p ++ drop (length p) emptyBuffer) (length p) false) Forward
     unfolding linkCarried carriedOn kindReply commandReply commandAnswer afterCommand commandDone transferDone frameDone answerTo errorTold fieldChecks idLegal payloadLegal errorLegal inside require kindMeaning ackMeaning
     served-frame p reads h some most =
-        served Frame since rounds b p reads i buffer buffered false _ TelecommandAck 0 [] Forward (rw (frame-taken d n i store buffer buffered p h some most)) (record { plain = refl; tells = refl; fields = refl }) refl
+        served Frame since rounds b p reads i buffer buffered false _ TelecommandAck 0 0 [] Forward (rw (frame-taken d n i store buffer buffered p h some most)) (record { plain = refl; tells = refl; fields = refl }) refl
 
     -- B: frame info tells the size and the checksum of the frame in the buffer.
     pub served-compare : (p : List ℕ) → linkRead l b ≡ given (asked Compare) p → take buffered buffer ≡ fileFrame file i → length (fileFrame file i) ≤ 256
         → Served file (sender Compare) (unit i buffer buffered false) store b (unit i buffer buffered false) Forward
     unfolding linkCarried carriedOn kindReply telemetryReply answerTo errorTold fieldChecks idLegal payloadLegal errorLegal inside require infoBytes bufferedFrame kindMeaning infoMeaning
     served-compare p reads loaded most =
-        served Compare since rounds b p reads i buffer buffered false _ TelemetryResponse 0 (infoBytes (transferAt n i buffer buffered false)) Forward refl
+        served Compare since rounds b p reads i buffer buffered false _ TelemetryResponse 0 0 (infoBytes (transferAt n i buffer buffered false)) Forward refl
         (record { plain = refl; tells = refl; fields = rw (info-length _ _ _ _) })
         (rw loaded (info-compared ((i + 65535) % 65536) (fileFrame file i) (flags (eqb i (frameCount n))) most (flags-clear (eqb i (frameCount n)))))
 
@@ -125,25 +125,25 @@ module _ (d : Device) (s t : ℕ) (a : Addressed (d .link) s t (d .own)) (file :
         → Served file (sender Take) (unit i buffer buffered false) store b (unit i buffer buffered true) Forward
     unfolding linkCarried carriedOn kindReply commandReply commandAnswer afterCommand commandDone transferDone takeDone answerTo errorTold fieldChecks idLegal payloadLegal errorLegal inside require kindMeaning ackMeaning
     served-take reads h small some fits =
-        served Take since rounds b (toBytes 2 i) reads i buffer buffered false _ TelecommandAck 0 [] Forward (rw (take-taken d n i store buffer buffered h small some fits)) (record { plain = refl; tells = refl; fields = refl }) refl
+        served Take since rounds b (toBytes 2 i) reads i buffer buffered false _ TelecommandAck 0 0 [] Forward (rw (take-taken d n i store buffer buffered h small some fits)) (record { plain = refl; tells = refl; fields = refl }) refl
 
     -- while it is pending the repeat gets nack 6,
     pub served-pending : linkRead l b ≡ given (asked Take) (toBytes 2 i) → Served file (sender Take) (unit i buffer buffered true) store b (unit i buffer buffered true) Forward
     unfolding linkCarried carriedOn kindReply commandReply commandAnswer afterCommand answerTo errorTold fieldChecks idLegal payloadLegal errorLegal inside require kindMeaning nackMeaning takenError
     served-pending reads =
-        served Take since rounds b (toBytes 2 i) reads i buffer buffered true _ TelecommandNack 6 [] Forward (rw (take-pending d n i store buffer buffered)) (record { plain = refl; tells = refl; fields = refl }) (rw (taken-on l 6 refl))
+        served Take since rounds b (toBytes 2 i) reads i buffer buffered true _ TelecommandNack 6 0 [] Forward (rw (take-pending d n i store buffer buffered)) (record { plain = refl; tells = refl; fields = refl }) (rw (taken-on l 6 refl))
 
-    -- and once it is stored nack 3.
+    -- and once it is stored nack 3, whose index the sender does not look at.
     pub served-stored : linkRead l b ≡ given (asked Take) (toBytes 2 i) → i < 65535 → Served file (sender Take) (unit (i + 1) buffer buffered false) store b (unit (i + 1) buffer buffered false) Forward
     unfolding linkCarried carriedOn kindReply commandReply commandAnswer afterCommand answerTo errorTold fieldChecks idLegal payloadLegal errorLegal inside require kindMeaning nackMeaning takenError
     served-stored reads small =
-        served Take since rounds b (toBytes 2 i) reads (i + 1) buffer buffered false _ TelecommandNack 3 [] Forward (rw (take-stored d n i store buffer buffered small)) (record { plain = refl; tells = refl; fields = refl }) (rw (taken-on l 3 refl))
+        served Take since rounds b (toBytes 2 i) reads (i + 1) buffer buffered false _ TelecommandNack 3 (cond (eqb (i + 1) (frameCount n)) 2 1) [] Forward (rw (take-stored d n i store buffer buffered small)) (record { plain = refl; tells = refl; fields = refl }) (rw (taken-on l 3 refl))
 
     -- D: while it is pending frame info tells the number before it,
     pub served-waiting : (p : List ℕ) → linkRead l b ≡ given (asked Confirm) p → i < 65535 → Served file (sender Confirm) (unit i buffer buffered true) store b (unit i buffer buffered true) Stay
     unfolding linkCarried carriedOn kindReply telemetryReply answerTo errorTold fieldChecks idLegal payloadLegal errorLegal inside require infoBytes bufferedFrame kindMeaning infoMeaning
     served-waiting p reads small =
-        served Confirm since rounds b p reads i buffer buffered true _ TelemetryResponse 0 (infoBytes (transferAt n i buffer buffered true)) Stay refl
+        served Confirm since rounds b p reads i buffer buffered true _ TelemetryResponse 0 0 (infoBytes (transferAt n i buffer buffered true)) Stay refl
         (record { plain = refl; tells = refl; fields = rw (info-length _ _ _ _) })
         (info-confirmed ((i + 65535) % 65536) _ _ i (flags (eqb i (frameCount n))) (omega arith) (flags-clear (eqb i (frameCount n))) ∙ rw (ne-eqb ((i + 65535) % 65536) i (omega arith)))
 
@@ -151,6 +151,6 @@ module _ (d : Device) (s t : ℕ) (a : Addressed (d .link) s t (d .own)) (file :
     pub served-confirmed : (p : List ℕ) → linkRead l b ≡ given (asked Confirm) p → i < 65535 → Served file (sender Confirm) (unit (i + 1) buffer buffered false) store b (unit (i + 1) buffer buffered false) Forward
     unfolding linkCarried carriedOn kindReply telemetryReply answerTo errorTold fieldChecks idLegal payloadLegal errorLegal inside require infoBytes bufferedFrame kindMeaning infoMeaning
     served-confirmed p reads small =
-        served Confirm since rounds b p reads (i + 1) buffer buffered false _ TelemetryResponse 0 (infoBytes (transferAt n (i + 1) buffer buffered false)) Forward refl
+        served Confirm since rounds b p reads (i + 1) buffer buffered false _ TelemetryResponse 0 0 (infoBytes (transferAt n (i + 1) buffer buffered false)) Forward refl
         (record { plain = refl; tells = refl; fields = rw (info-length _ _ _ _) })
         (info-confirmed ((i + 1 + 65535) % 65536) _ _ i (flags (eqb (i + 1) (frameCount n))) (omega arith) (flags-clear (eqb (i + 1) (frameCount n))) ∙ rw (eq-eqb ((i + 1 + 65535) % 65536) i (omega arith)))

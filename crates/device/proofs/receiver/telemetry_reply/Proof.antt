@@ -1,6 +1,8 @@
 -- Carried by the ID.
+use mathlib.Core.Path.{_≡_}
 use borrow.Author.Tests.{eq-eqb, ne-eqb}
-use Rattle.device_rules.specs.Receive.{telemetryReply}
+use Rattle.message_rules.specs.declared.Kind.the-variants.{TelemetryResponse, TelemetryNack}
+use Rattle.device_rules.specs.Receive.{answerTo, telemetryReply}
 use borrow.Author.Needs.{needs}
 use Rattle.device.proofs.receiver.telemetry_reply.Statement.{statement}
 use Rattle.device.proofs.receiver.telemetry_reply.Tie as tie
@@ -22,7 +24,10 @@ same-length c = search needs
 
 returns : tie.Need-returns
 unfolding telemetryReply
-returns c = rw (eq-eqb _ _ (c .before .before .before .before .before .before .before .before .if1 .taken), ← c .before .before .before .before .before .before .info-bytes .ensures, ← c .before .before .before .before .before .answer-to .ensures) (c .before .before .send .ensures)
+returns c =
+    let answered = c .before .before .before .before .before in
+    let info : answered .answer-to .result ≡ answerTo _ _ TelemetryResponse 0 0 = answered .answer-to .ensures in
+    rw (eq-eqb _ _ (answered .before .before .before .if1 .taken), ← answered .before .info-bytes .ensures, ← info) (c .before .before .send .ensures)
 
 answer-to-requires-2 : tie.Need-answer-to-requires-2
 answer-to-requires-2 c κs = search needs
@@ -38,7 +43,10 @@ same-length-2 c = search needs
 
 returns-2 : tie.Need-returns-2
 unfolding telemetryReply
-returns-2 c = rw (ne-eqb _ _ (c .before .before .before .before .before .before .if1 .left), ← c .before .before .before .before .before .answer-to2 .ensures) (c .before .before .send2 .ensures)
+returns-2 c =
+    let answered = c .before .before .before .before .before in
+    let nack : answered .answer-to2 .result ≡ answerTo _ _ TelemetryNack 1 0 = answered .answer-to2 .ensures in
+    rw (ne-eqb _ _ (answered .before .if1 .left), ← nack) (c .before .before .send2 .ensures)
 
 pub telemetry-reply-spec : {M : Type 1} → statement M
 telemetry-reply-spec =

@@ -1,13 +1,31 @@
--- Carried by the tests in their order: each return rewrites with those that led there.
-use mathlib.Core.Path.{ap, _∙_}
+-- Carried by the tests in their order: each return rewrites with those that led there, from the number on with what is left of the row.
+use Prim.Native.Nat.{ℕ, _-_, _≤_, _<_}
+use mathlib.Core.Bool.{not}
+use mathlib.Core.Path.{_≡_, ap, _∙_}
+use native.Mathlib.Omega.{arith}
 use borrow.Author.Needs.{needs}
-use borrow.Author.Tests.{eq-eqb, ne-eqb}
+use borrow.Author.Tests.{eq-eqb, ne-eqb, lt-ltb, le-ltb}
 use denote.Ref.{now}
+use lib.Dec.{ltb, eqb}
+use lib.ListN.{length}
 use Rattle.little_endian_rules.specs.LittleEndian.{fromBytes}
-use Rattle.device_rules.specs.Faults.{fault, takeFault}
+use Rattle.device_rules.specs.Device.{bufferedFrame}
+use Rattle.device_rules.specs.Faults.{fault, isLastStored, isNext, takeFault}
+use Rattle.device_rules.specs.declared.Fault.{Fault}
+use Rattle.device_rules.specs.declared.Fault.the-variants.{None}
+use Rattle.device_rules.specs.declared.Transfer.{Transfer}
+use Rattle.device_rules.proofs.Buffers.{frame-most}
 use Rattle.device_rules.proofs.Payloads.{two-bytes}
 use Rattle.device_faults.proofs.take.take_fault.Statement.{statement}
 use Rattle.device_faults.proofs.take.take_fault.Tie as tie
+use Rattle.device_faults.proofs.take.take_fault.Reads as reads
+use Rattle.device_faults.proofs.take.take_fault.Lts as lts
+use Rattle.device_faults.proofs.phase.is_finished.Reads as is-finished-reads
+use Rattle.device_faults.proofs.phase.is_idle.Reads as is-idle-reads
+use Rattle.device_faults.proofs.take.is_last_stored.Reads as is-last-stored-reads
+use Rattle.device_faults.proofs.take.is_next.Reads as is-next-reads
+use Rattle.device_state.proofs.buffered_length.Reads as buffered-length-reads
+use Rattle.little_endian.proofs.u16_from_bytes.Reads as u16-from-bytes-reads
 
 returns : tie.Need-returns
 unfolding takeFault fault
@@ -29,7 +47,9 @@ is-finished-requires c κs = search needs
 
 returns-4 : tie.Need-returns-4
 unfolding takeFault fault
-returns-4 c = rw (eq-eqb _ _ (c .before .before .before .before .before .if1 .left), ← c .before .before .before .before .is-idle .ensures, c .before .before .before .if2 .left, c .before .before .if3 .left, ← c .before .is-finished .ensures, c .if4 .taken)
+returns-4 c =
+    let phase = c .before .before .before .before in
+    rw (eq-eqb _ _ (phase .before .if1 .left), ← phase .is-idle .ensures, c .before .before .before .if2 .left, c .before .before .if3 .left, ← c .before .is-finished .ensures, c .if4 .taken)
 
 shared-slice-read-u16-from-bytes : tie.Need-shared-slice-read-u16-from-bytes
 shared-slice-read-u16-from-bytes c = search needs
@@ -40,16 +60,103 @@ shared-slice-read-u16-from-bytes-2 c = search needs
 u16-from-bytes-requires : tie.Need-u16-from-bytes-requires
 u16-from-bytes-requires c κs = search needs
 
-number-fault-requires : tie.Need-number-fault-requires
-number-fault-requires c κs = search needs
+-- What is left of the row once the number is read.
+abbrev remaining : Transfer → ℕ → Fault
+remaining t number =
+    fault 3 1 (isLastStored t number)
+    (fault 3 3 (not (isNext t number))
+    (fault 7 0 (eqb (length (bufferedFrame t)) 0)
+    (fault 3 4 (ltb (t .size - t .stored) (length (bufferedFrame t)))
+    None)))
+
+abbrev calls : lts.Claims
+calls = (
+  is-idle-reads.Asked,
+  is-idle-reads.Learnt,
+  is-finished-reads.Asked,
+  is-finished-reads.Learnt,
+  u16-from-bytes-reads.Asked,
+  u16-from-bytes-reads.Learnt,
+  is-last-stored-reads.Asked,
+  is-last-stored-reads.Learnt,
+  is-next-reads.Asked,
+  is-next-reads.Learnt,
+  buffered-length-reads.Asked,
+  buffered-length-reads.Learnt,
+)
+
+number-read : (c : lts.After-u16-from-bytes calls reads.Pre reads.Post) → let args = c .before .before .before .before .before .before .before .before .before .before .args in
+    takeFault (args .transfer) (now (args .payload)) ≡ remaining (args .transfer) (c .u16-from-bytes .result)
+unfolding takeFault fault
+number-read c =
+    let tests = c .before .before .before in
+    let phase = tests .before .before .before .before in
+    let two = phase .before .if1 .left in
+    let number = c .u16-from-bytes .ensures ∙ ap fromBytes (two-bytes (now (phase .before .before .before .args .payload)) two) in
+    rw (eq-eqb _ _ two, ← phase .is-idle .ensures, tests .before .before .before .if2 .left, tests .before .before .if3 .left, ← tests .before .is-finished .ensures, tests .if4 .left, ← number)
+
+is-last-stored-requires : tie.Need-is-last-stored-requires
+is-last-stored-requires c κs = search needs
 
 returns-5 : tie.Need-returns-5
-unfolding takeFault fault
-returns-5 c =
-    let tests = c .before .before .before .before in
-    let two = tests .before .before .before .before .before .if1 .left in
-    let number = c .before .u16-from-bytes .ensures ∙ ap fromBytes (two-bytes (now (tests .before .before .before .before .before .before .before .args .payload)) two) in
-    rw (c .number-fault .ensures, eq-eqb _ _ two, ← tests .before .before .before .before .is-idle .ensures, tests .before .before .before .if2 .left, tests .before .before .if3 .left, ← tests .before .is-finished .ensures, tests .if4 .left, ← number)
+unfolding fault
+returns-5 c = rw (number-read (c .before .before), ← c .before .is-last-stored .ensures, c .if5 .taken)
+
+is-next-requires : tie.Need-is-next-requires
+is-next-requires c κs = search needs
+
+returns-6 : tie.Need-returns-6
+unfolding fault
+returns-6 c =
+    let last = c .before .before in
+    rw (number-read (last .before .before), ← last .before .is-last-stored .ensures, last .if5 .left, ← c .before .is-next .ensures, c .if6 .taken)
+
+buffered-length-requires : tie.Need-buffered-length-requires
+buffered-length-requires c κs = search needs
+
+-- The number is the next: the buffer's tests are left.
+frame-read : (c : lts.After-buffered-length calls reads.Pre reads.Post) → let number = c .before .before .before .before .before in
+    let args = number .before .before .before .before .before .before .before .before .before .before .args in
+    takeFault (args .transfer) (now (args .payload)) ≡ fault 7 0 (eqb (c .buffered-length .result) 0) (fault 3 4 (ltb (args .transfer .size - args .transfer .stored) (c .buffered-length .result)) None)
+unfolding fault
+frame-read c =
+    let last = c .before .before .before in
+    rw (number-read (last .before .before), ← last .before .is-last-stored .ensures, last .if5 .left, ← c .before .before .is-next .ensures, c .before .if6 .left, ← c .buffered-length .ensures)
+
+returns-7 : tie.Need-returns-7
+unfolding fault
+returns-7 c = rw (frame-read (c .before), eq-eqb _ _ (c .if7 .taken))
+
+cast-if8 : tie.Need-cast-if8
+cast-if8 c = search needs
+
+cast-if8-2 : tie.Need-cast-if8-2
+cast-if8-2 c = search needs
+
+add-if8 : tie.Need-add-if8
+add-if8 c =
+    let read = c .before .before .before in
+    let number = read .before .before .before .before .before in
+    let entry = number .before .before .before .before .before .before .before .before .before .before in
+    omega (arith, read .buffered-length .ensures, frame-most (entry .args .transfer) (entry .good .0), c .struct-known2 .given)
+
+returns-8 : tie.Need-returns-8
+unfolding fault
+returns-8 c =
+    let read = c .before .before .before .before in
+    let number = read .before .before .before .before .before in
+    let t = number .before .before .before .before .before .before .before .before .before .before .args .transfer in
+    let above : t .size - t .stored < read .buffered-length .result = omega arith in
+    rw (frame-read read, ne-eqb _ _ (c .before .before .before .if7 .left), lt-ltb _ _ above)
+
+returns-9 : tie.Need-returns-9
+unfolding fault
+returns-9 c =
+    let read = c .before .before .before .before in
+    let number = read .before .before .before .before .before in
+    let t = number .before .before .before .before .before .before .before .before .before .before .args .transfer in
+    let room : read .buffered-length .result ≤ t .size - t .stored = omega arith in
+    rw (frame-read read, ne-eqb _ _ (c .before .before .before .if7 .left), le-ltb _ _ room)
 
 pub take-fault-spec : {M : Type 1} → statement M
 take-fault-spec =
@@ -64,5 +171,14 @@ take-fault-spec =
     shared-slice-read-u16-from-bytes
     shared-slice-read-u16-from-bytes-2
     u16-from-bytes-requires
-    number-fault-requires
-    returns-5)
+    is-last-stored-requires
+    returns-5
+    is-next-requires
+    returns-6
+    buffered-length-requires
+    returns-7
+    cast-if8
+    cast-if8-2
+    add-if8
+    returns-8
+    returns-9)
