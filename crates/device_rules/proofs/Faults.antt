@@ -1,4 +1,4 @@
--- Which fault a command meets at a unit that has stored i frames: carried by the laws of Order. Demand 3 rests on these.
+-- Which fault a command meets at a unit that has stored i frames: carried by the laws of Order, and by the tests of frame. Demand 3 rests on these.
 use Prim.Native.Nat.{ℕ, _+_, _*_, _-_, _%_, _≤_, _<_, min}
 use mathlib.Core.Bool.{Bool, true, false, cond}
 use mathlib.Core.List.{List}
@@ -14,10 +14,10 @@ use Rattle.device_rules.specs.Device.{isIdle, bufferedFrame, withTransfe
 use Rattle.device_rules.specs.declared.Device.{Device}
 use Rattle.device_rules.specs.declared.Transfer.{Transfer}
 use Rattle.device_rules.specs.declared.Phase.the-variants as Phase·of
-use Rattle.device_rules.specs.Faults.{fault, takeFault, frameFault, commandFault}
+use Rattle.device_rules.specs.Faults.{fault, frameFault, commandFault}
 use Rattle.device_rules.specs.declared.Fault.{Fault}
 use Rattle.device_rules.specs.declared.Fault.the-variants.{None, Nack}
-use Rattle.device_rules.proofs.Order.{take-finished, take-repeated, take-next}
+use Rattle.device_rules.proofs.Order.{take-waits, take-finished, take-repeated, take-next}
 
 -- A command without a fault passed every test.
 pub fault-none : (e i : ℕ) (t : Bool) (rest : Fault) → fault e i t rest ≡ None → (t ≡ false) × (rest ≡ None)
@@ -63,8 +63,7 @@ module _ (d : Device) (n i store : ℕ) (buffer : List ℕ) (buffered : ℕ) whe
 
   -- nack 6 while it is pending,
   pub take-pending : commandFault (unit i true) store 21 (toBytes 2 i) ≡ Nack 6 0
-  unfolding commandFault takeFault fault
-  take-pending = simp (to-length 2 i, never-idle (eqb i (frameCount n)))
+  take-pending = take-waits (unit i true) store (toBytes 2 i) (to-length 2 i) (never-idle (eqb i (frameCount n))) refl
 
   -- and nack 3 once it is stored: the transfer is finished, or the number is the one last stored.
   pub take-stored : i < 65535 → commandFault (unit (i + 1) false) store 21 (toBytes 2 i) ≡ Nack 3 (cond (eqb (i + 1) (frameCount n)) 2 1)

@@ -9,7 +9,7 @@ use lib.Dec.{ltb, eqb}
 use lib.ListN.{length}
 use Rattle.little_endian_rules.specs.LittleEndian.{fromBytes}
 use Rattle.file_rules.specs.File.{sizeLegal}
-use Rattle.device_rules.specs.Device.{isOpen, bufferedFrame}
+use Rattle.device_rules.specs.Device.{isIdle, isOpen, bufferedFrame}
 use Rattle.device_rules.specs.Commands.{newTransfer, transferDone, commandDone}
 use Rattle.device_rules.specs.Faults.{fault, setupFault, isLastStored, isNext, takeFault, frameFault, cancelFault, commandFault}
 use Rattle.device_rules.specs.declared.Device.{Device}
@@ -21,7 +21,7 @@ either : (b : Bool) → (b || true) ≡ true
 either true = refl
 either false = refl
 
--- An index other than 0 stands in a nack 3 of take frame, and nowhere else.
+-- An index other than 0 stands in every nack 3 of take frame, and nowhere else.
 abbrev IndexFits : Bool → Fault → Type 0
 IndexFits take None = Unit
 IndexFits take (Nack e i) = ltb 0 i ≡ (take && eqb e 3)
@@ -70,7 +70,23 @@ module _ (a b c e : ℕ) where
           let whole : fromBytes (a ∷ b ∷ c ∷ e ∷ []) ≡ size = omega arith in
           simp (still, ended, whole, legal, le-ltb store size h)
 
--- Take frame of a number, with nothing pending.
+-- Take frame: "2 length", whatever the unit is.
+pub take-length : (d : Device) (store : ℕ) (p : List ℕ) → (length p ≡ 2 → ⊥) → commandFault d store 21 p ≡ Nack 2 0
+unfolding commandFault takeFault fault
+take-length d store p other = simp (ne-eqb (length p) 2 other)
+
+module _ (d : Device) (store : ℕ) (p : List ℕ) (two : length p ≡ 2) where
+  -- "7 idle", whatever the number is.
+  pub take-idle : d .transfer .phase ≡ Phase·of.Idle → commandFault d store 21 p ≡ Nack 7 0
+  unfolding commandFault takeFault fault
+  take-idle idle = simp (eq-eqb (length p) 2 two, idle)
+
+  -- "6 pending", whatever the number is.
+  pub take-waits : isIdle (d .transfer .phase) ≡ false → d .transfer .pending ≡ true → commandFault d store 21 p ≡ Nack 6 0
+  unfolding commandFault takeFault fault
+  take-waits begun waits = simp (eq-eqb (length p) 2 two, begun, waits)
+
+-- With nothing pending.
 module _ (d : Device) (store : ℕ) (still : d .transfer .pending ≡ false) (p : List ℕ) (two : length p ≡ 2) where
   abbrev number : ℕ
   number = fromBytes p

@@ -1,4 +1,4 @@
--- Carried by the tests in their order: each return rewrites with those that led there, from the number on with what is left of the row.
+-- Carried by the tests in their order: each return rewrites with those that led there. From the number on, two lemmas say what is left of the row.
 use Prim.Native.Nat.{ℕ, _-_, _≤_, _<_}
 use mathlib.Core.Bool.{not}
 use mathlib.Core.Path.{_≡_, ap, _∙_}
@@ -60,7 +60,7 @@ shared-slice-read-u16-from-bytes-2 c = search needs
 u16-from-bytes-requires : tie.Need-u16-from-bytes-requires
 u16-from-bytes-requires c κs = search needs
 
--- What is left of the row once the number is read.
+-- What is left once the number is read.
 abbrev remaining : Transfer → ℕ → Fault
 remaining t number =
     fault 3 1 (isLastStored t number)
@@ -69,6 +69,7 @@ remaining t number =
     (fault 3 4 (ltb (t .size - t .stored) (length (bufferedFrame t)))
     None)))
 
+-- What each call asks and promises, in the order of the code.
 abbrev calls : lts.Claims
 calls = (
   is-idle-reads.Asked,
