@@ -1,6 +1,6 @@
 // Take frame: its faults, in the order of the table, and the two tests of the number.
 ghost use mathlib.Core.Path.{_≡_};
-ghost use Rattle.device_rules.specs.Faults.{isLastStored, isNext, takeFault};
+ghost use Rattle.device_rules.specs.Faults.{isLastStored, isOutOfSequence, takeFault};
 use crate::phase::is_finished;
 use crate::phase::is_idle;
 use device_rules::Fault;
@@ -26,7 +26,7 @@ pub(crate) fn take_fault(transfer: Transfer, payload: &[u8]) -> Fault
     if is_last_stored(transfer, number) {
         return Fault::Nack(3, 1);
     }
-    if !is_next(transfer, number) {
+    if is_out_of_sequence(transfer, number) {
         return Fault::Nack(3, 3);
     }
     let length = device_state::buffered_length(transfer);
@@ -45,8 +45,8 @@ fn is_last_stored(transfer: Transfer, number: u16) -> bool
     number == transfer.number && number != 0xFFFF
 }
 
-fn is_next(transfer: Transfer, number: u16) -> bool
-    ensures { λ r. ⌜ r ≡ isNext transfer number ⌝ }
+fn is_out_of_sequence(transfer: Transfer, number: u16) -> bool
+    ensures { λ r. ⌜ r ≡ isOutOfSequence transfer number ⌝ }
 {
-    number != 0xFFFF && number == std::num::wrapping_add_u16(transfer.number, 1)
+    number == 0xFFFF || number != std::num::wrapping_add_u16(transfer.number, 1)
 }

@@ -1,5 +1,5 @@
 pub mod Order
-pub mod Nacks
+pub mod Replies
 pub mod Buffers
 pub mod Payloads
 pub mod Faults

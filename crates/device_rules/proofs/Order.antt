@@ -1,6 +1,6 @@
 -- The order of the unit's tests and what each looks at, for any unit: each law computes the table of Faults from what it supposes.
 use Prim.Native.Nat.{ℕ, _+_, _*_, _-_, _%_, _≤_, _<_}
-use mathlib.Core.Bool.{Bool, true, false, cond, not, _&&_, _||_, and-false}
+use mathlib.Core.Bool.{Bool, true, false, cond, not, _&&_, _||_, and-false, or-true}
 use mathlib.Core.List.{List, [], _∷_}
 use mathlib.Core.Path.{_≡_, refl, subst}
 use native.Mathlib.Omega.{arith}
@@ -11,15 +11,11 @@ use Rattle.little_endian_rules.specs.LittleEndian.{fromBytes}
 use Rattle.file_rules.specs.File.{sizeLegal}
 use Rattle.device_rules.specs.Device.{isIdle, isOpen, bufferedFrame}
 use Rattle.device_rules.specs.Commands.{newTransfer, transferDone, commandDone}
-use Rattle.device_rules.specs.Faults.{fault, setupFault, isLastStored, isNext, takeFault, frameFault, cancelFault, commandFault}
+use Rattle.device_rules.specs.Faults.{fault, setupFault, isLastStored, isOutOfSequence, takeFault, frameFault, cancelFault, commandFault}
 use Rattle.device_rules.specs.declared.Device.{Device}
 use Rattle.device_rules.specs.declared.Phase.the-variants as Phase·of
 use Rattle.device_rules.specs.declared.Fault.{Fault}
 use Rattle.device_rules.specs.declared.Fault.the-variants.{None, Nack}
-
-either : (b : Bool) → (b || true) ≡ true
-either true = refl
-either false = refl
 
 -- An index other than 0 stands in every nack 3 of take frame, and nowhere else.
 abbrev IndexFits : Bool → Fault → Type 0
@@ -50,6 +46,11 @@ module _ (a b c e : ℕ) where
     unfolding commandFault setupFault fault
     setup-pending store pending = simp pending
 
+    -- "7 open", whatever the size is;
+    pub setup-open : (store : ℕ) → d .transfer .pending ≡ false → d .transfer .phase ≡ Phase·of.Open → commandFault d store 20 (a ∷ b ∷ c ∷ e ∷ []) ≡ Nack 7 0
+    unfolding commandFault setupFault fault
+    setup-open store still begun = simp (still, begun)
+
     module _ (store : ℕ) (still : d .transfer .pending ≡ false) (ended : isOpen (d .transfer .phase) ≡ false) where
       -- "3 size 0, above the store or above 16,776,960": the whole number is that, however large the store is,
       pub setup-illegal : sizeLegal size ≡ false → commandFault d store 20 (a ∷ b ∷ c ∷ e ∷ []) ≡ Nack 3 0
@@ -61,7 +62,7 @@ module _ (a b c e : ℕ) where
       -- or it is above the store;
       pub setup-above : store < size → commandFault d store 20 (a ∷ b ∷ c ∷ e ∷ []) ≡ Nack 3 0
       unfolding commandFault setupFault fault fromBytes
-      setup-above h = simp (still, ended, lt-ltb store (fromBytes (a ∷ b ∷ c ∷ e ∷ [])) (omega arith), either)
+      setup-above h = simp (still, ended, lt-ltb store (fromBytes (a ∷ b ∷ c ∷ e ∷ [])) (omega arith), or-true)
 
       -- else it is taken, by an idle unit and by a finished one.
       pub setup-fits : sizeLegal size ≡ true → size ≤ store → commandFault d store 20 (a ∷ b ∷ c ∷ e ∷ []) ≡ None
@@ -76,12 +77,12 @@ unfolding commandFault takeFault fault
 take-length d store p other = simp (ne-eqb (length p) 2 other)
 
 module _ (d : Device) (store : ℕ) (p : List ℕ) (two : length p ≡ 2) where
-  -- "7 idle", whatever the number is.
+  -- "7 idle", whatever the number is, and whether or not a frame is pending.
   pub take-idle : d .transfer .phase ≡ Phase·of.Idle → commandFault d store 21 p ≡ Nack 7 0
   unfolding commandFault takeFault fault
   take-idle idle = simp (eq-eqb (length p) 2 two, idle)
 
-  -- "6 pending", whatever the number is.
+  -- "6 pending", open or finished, whatever the number is.
   pub take-waits : isIdle (d .transfer .phase) ≡ false → d .transfer .pending ≡ true → commandFault d store 21 p ≡ Nack 6 0
   unfolding commandFault takeFault fault
   take-waits begun waits = simp (eq-eqb (length p) 2 two, begun, waits)
@@ -102,12 +103,12 @@ module _ (d : Device) (store : ℕ) (still : d .transfer .pending ≡ false) (p 
   module _ (begun : d .transfer .phase ≡ Phase·of.Open) where
     -- "3, the number is [..] not the next", whatever the buffer is: one stored before the last, or one still to come;
     pub take-other : (number ≡ own → ⊥) → (number ≡ (own + 1) % 65536 → ⊥) → commandFault d store 21 p ≡ Nack 3 3
-    unfolding commandFault takeFault isLastStored isNext fault
-    take-other last next = simp (eq-eqb (length p) 2 two, begun, still, ne-eqb number own last, ne-eqb number ((own + 1) % 65536) next, and-false (not (eqb number 0xFFFF)))
+    unfolding commandFault takeFault isLastStored isOutOfSequence fault
+    take-other last next = simp (eq-eqb (length p) 2 two, begun, still, ne-eqb number own last, ne-eqb number ((own + 1) % 65536) next, or-true (eqb number 0xFFFF))
 
     -- "0xFFFF", also where it is the unit's own, since nothing is stored yet, and also where it would be the next;
     pub take-last : number ≡ 0xFFFF → commandFault d store 21 p ≡ Nack 3 3
-    unfolding commandFault takeFault isLastStored isNext fault
+    unfolding commandFault takeFault isLastStored isOutOfSequence fault
     take-last h = simp (eq-eqb (length p) 2 two, begun, still, h, and-false (eqb 0xFFFF own))
 
     -- "1, the number is the one last stored", whatever the buffer is.
@@ -124,7 +125,7 @@ module _ (d : Device) (store : ℕ) (still : d .transfer .pending ≡ false) (p 
       remains = d .transfer .size - d .transfer .stored
 
       pub take-next : commandFault d store 21 p ≡ fault 7 0 (eqb buffered 0) (fault 3 4 (ltb remains buffered) None)
-      unfolding commandFault takeFault isLastStored isNext fault
+      unfolding commandFault takeFault isLastStored isOutOfSequence fault
       take-next = simp (eq-eqb (length p) 2 two, begun, still, ne-eqb number own (omega arith), ne-eqb number 0xFFFF (omega arith), eq-eqb number ((own + 1) % 65536) next)
 
       -- "7 buffer empty",
@@ -159,3 +160,8 @@ index-told d store id p e i h = subst (IndexFits (eqb id 21)) h (by (eqb id 21) 
         (one-of false (eqb id 22) _ _ (row false _ _ _ _ refl (row false _ _ _ _ refl (row false _ _ _ _ refl tt)))
         (one-of false (eqb id 23) _ _ (row false _ _ _ _ refl tt)
         refl)))
+
+-- "Any other ID: error 1."
+pub other-id : (d : Device) (store id : ℕ) (p : List ℕ) → (id ≡ 20 → ⊥) → (id ≡ 21 → ⊥) → (id ≡ 22 → ⊥) → (id ≡ 23 → ⊥) → commandFault d store id p ≡ Nack 1 0
+unfolding commandFault
+other-id d store id p setup take frame cancel = rw (ne-eqb id 20 setup, ne-eqb id 21 take, ne-eqb id 22 frame, ne-eqb id 23 cancel)

@@ -32,9 +32,9 @@ setupFault t store p =
 unfoldable pub isLastStored : Transfer → ℕ → Bool
 isLastStored t number = eqb number (t .number) && not (eqb number 0xFFFF)
 
--- The opposite of "number 0xFFFF or not the next".
-unfoldable pub isNext : Transfer → ℕ → Bool
-isNext t number = not (eqb number 0xFFFF) && eqb number ((t .number + 1) % 65536)
+-- "Number 0xFFFF or not the next."
+unfoldable pub isOutOfSequence : Transfer → ℕ → Bool
+isOutOfSequence t number = eqb number 0xFFFF || not (eqb number ((t .number + 1) % 65536))
 
 -- "21 take frame | number, 2 bytes | 2 length; 7 idle; 6 pending; 3 finished, or number 0xFFFF or not the next; 7 buffer empty; 3 buffer
 -- above what remains." Document 02, ticket 1: "In a take-frame nack 3 the error index becomes the first that applies: 2, the transfer is
@@ -47,7 +47,7 @@ takeFault t p =
     (fault 6 0 (t .pending)
     (fault 3 2 (isFinished (t .phase))
     (fault 3 1 (isLastStored t (fromBytes p))
-    (fault 3 3 (not (isNext t (fromBytes p)))
+    (fault 3 3 (isOutOfSequence t (fromBytes p))
     (fault 7 0 (eqb (length (bufferedFrame t)) 0)
     (fault 3 4 (ltb (t .size - t .stored) (length (bufferedFrame t)))
     None)))))))

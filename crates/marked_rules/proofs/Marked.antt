@@ -56,7 +56,7 @@ unfolding setupBytes opened afterRounds askedAgain
     file·File.sizeLegal file·File.frameCount file·File.fileFrame
     file·Checksum.sum file·Checksum.checksum
     device·Device.bufferedFrame device·Device.noTransfer device·Device.newDevice
-    device·Faults.fault device·Faults.setupFault device·Faults.isLastStored device·Faults.isNext device·Faults.takeFault device·Faults.frameFault
+    device·Faults.fault device·Faults.setupFault device·Faults.isLastStored device·Faults.isOutOfSequence device·Faults.takeFault device·Faults.frameFault
     device·Faults.commandFault
     device·Commands.newTransfer device·Commands.takeDone device·Commands.frameDone device·Commands.transferDone device·Commands.commandDone
     device·Commands.afterCommand

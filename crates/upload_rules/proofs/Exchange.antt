@@ -19,6 +19,7 @@ use Rattle.link_rules.specs.declared.Link.the-variants.{Uart, Rs485, Can, Csp}
 use Rattle.link_rules.proofs.Laws.{LegalMessage}
 use Rattle.link_rules.proofs.RoundTrip.{Arrives, legal-arrives}
 use Rattle.device_rules.specs.Receive.{isTaken, answerSource}
+use Rattle.device_rules.proofs.Replies.{answerOf}
 use Rattle.sender_rules.specs.Sender.{requestKind, requestId}
 use Rattle.sender_rules.specs.declared.Stage.{Stage}
 
@@ -39,11 +40,6 @@ requestAt s t stage = requestOf (requestKind stage) (requestId stage) s t
 
 abbrev pub requestRead : Link → ℕ → ℕ → Stage → Message
 requestRead l s t stage = linkCarried l (requestAt s t stage)
-
--- An answer to a message.
-abbrev pub answerOf : Link → ℕ → Message → Kind → ℕ → ℕ → Message
-answerOf l own m k e i =
-    record { kind = k; id = m .id; source = answerSource l own m; destination = m .source; error = Told e; index = i }
 
 -- A message whose fields are legal for its kind, and which is no event.
 pub record Plain (m : Message) (p : List ℕ) : Type 0 where

@@ -32,9 +32,10 @@ use Rattle.sender_rules.specs.declared.Sender.{Sender}
 use Rattle.sender_rules.specs.declared.Stage.{Stage}
 use Rattle.sender_rules.specs.declared.Stage.the-variants.{Frame, Back, Compare, Take, Confirm}
 use Rattle.round_rules.specs.declared.State.the-variants.{Running}
-use Rattle.upload_rules.proofs.Exchange.{Addressed, requestOf, requestRead, answerOf, Plain, answer-arrives, request-taken, answer-fits}
+use Rattle.upload_rules.proofs.Exchange.{Addressed, requestOf, requestRead, Plain, answer-arrives, request-taken, answer-fits}
 use Rattle.sender_rules.proofs.Infos.{info-length, info-compared, info-confirmed}
 use Rattle.sender_rules.proofs.Stages.{taken-on}
+use Rattle.device_rules.proofs.Replies.{answerOf}
 use Rattle.device_rules.proofs.Faults.{transferAt, frame-taken, take-taken, take-pending, take-stored}
 use Rattle.sender_rules.proofs.Situations.{senderAt}
 

@@ -1,6 +1,5 @@
 -- Carried by the tests in their order: each return rewrites with those that led there. From the number on, two lemmas say what is left of the row.
 use Prim.Native.Nat.{ℕ, _-_, _≤_, _<_}
-use mathlib.Core.Bool.{not}
 use mathlib.Core.Path.{_≡_, ap, _∙_}
 use native.Mathlib.Omega.{arith}
 use borrow.Author.Needs.{needs}
@@ -10,7 +9,7 @@ use lib.Dec.{ltb, eqb}
 use lib.ListN.{length}
 use Rattle.little_endian_rules.specs.LittleEndian.{fromBytes}
 use Rattle.device_rules.specs.Device.{bufferedFrame}
-use Rattle.device_rules.specs.Faults.{fault, isLastStored, isNext, takeFault}
+use Rattle.device_rules.specs.Faults.{fault, isLastStored, isOutOfSequence, takeFault}
 use Rattle.device_rules.specs.declared.Fault.{Fault}
 use Rattle.device_rules.specs.declared.Fault.the-variants.{None}
 use Rattle.device_rules.specs.declared.Transfer.{Transfer}
@@ -23,7 +22,7 @@ use Rattle.device_faults.proofs.take.take_fault.Lts as lts
 use Rattle.device_faults.proofs.phase.is_finished.Reads as is-finished-reads
 use Rattle.device_faults.proofs.phase.is_idle.Reads as is-idle-reads
 use Rattle.device_faults.proofs.take.is_last_stored.Reads as is-last-stored-reads
-use Rattle.device_faults.proofs.take.is_next.Reads as is-next-reads
+use Rattle.device_faults.proofs.take.is_out_of_sequence.Reads as is-out-of-sequence-reads
 use Rattle.device_state.proofs.buffered_length.Reads as buffered-length-reads
 use Rattle.little_endian.proofs.u16_from_bytes.Reads as u16-from-bytes-reads
 
@@ -64,7 +63,7 @@ u16-from-bytes-requires c κs = search needs
 abbrev remaining : Transfer → ℕ → Fault
 remaining t number =
     fault 3 1 (isLastStored t number)
-    (fault 3 3 (not (isNext t number))
+    (fault 3 3 (isOutOfSequence t number)
     (fault 7 0 (eqb (length (bufferedFrame t)) 0)
     (fault 3 4 (ltb (t .size - t .stored) (length (bufferedFrame t)))
     None)))
@@ -80,8 +79,8 @@ calls = (
   u16-from-bytes-reads.Learnt,
   is-last-stored-reads.Asked,
   is-last-stored-reads.Learnt,
-  is-next-reads.Asked,
-  is-next-reads.Learnt,
+  is-out-of-sequence-reads.Asked,
+  is-out-of-sequence-reads.Learnt,
   buffered-length-reads.Asked,
   buffered-length-reads.Learnt,
 )
@@ -103,14 +102,14 @@ returns-5 : tie.Need-returns-5
 unfolding fault
 returns-5 c = rw (number-read (c .before .before), ← c .before .is-last-stored .ensures, c .if5 .taken)
 
-is-next-requires : tie.Need-is-next-requires
-is-next-requires c κs = search needs
+is-out-of-sequence-requires : tie.Need-is-out-of-sequence-requires
+is-out-of-sequence-requires c κs = search needs
 
 returns-6 : tie.Need-returns-6
 unfolding fault
 returns-6 c =
     let last = c .before .before in
-    rw (number-read (last .before .before), ← last .before .is-last-stored .ensures, last .if5 .left, ← c .before .is-next .ensures, c .if6 .taken)
+    rw (number-read (last .before .before), ← last .before .is-last-stored .ensures, last .if5 .left, ← c .before .is-out-of-sequence .ensures, c .if6 .taken)
 
 buffered-length-requires : tie.Need-buffered-length-requires
 buffered-length-requires c κs = search needs
@@ -122,7 +121,7 @@ frame-read : (c : lts.After-buffered-length calls reads.Pre reads.Post) → let 
 unfolding fault
 frame-read c =
     let last = c .before .before .before in
-    rw (number-read (last .before .before), ← last .before .is-last-stored .ensures, last .if5 .left, ← c .before .before .is-next .ensures, c .before .if6 .left, ← c .buffered-length .ensures)
+    rw (number-read (last .before .before), ← last .before .is-last-stored .ensures, last .if5 .left, ← c .before .before .is-out-of-sequence .ensures, c .before .if6 .left, ← c .buffered-length .ensures)
 
 returns-7 : tie.Need-returns-7
 unfolding fault
@@ -174,7 +173,7 @@ take-fault-spec =
     u16-from-bytes-requires
     is-last-stored-requires
     returns-5
-    is-next-requires
+    is-out-of-sequence-requires
     returns-6
     buffered-length-requires
     returns-7

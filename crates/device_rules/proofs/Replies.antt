@@ -1,0 +1,48 @@
+-- What the unit answers to each kind of request: carried by the definitions of the answers, opened.
+use Prim.Native.Nat.{ℕ}
+use mathlib.Core.List.{List, []}
+use mathlib.Core.Path.{_≡_}
+use borrow.Author.Tests.{eq-eqb, ne-eqb}
+use Rattle.message_rules.specs.Answer.{about}
+use Rattle.message_rules.specs.declared.ErrorByte.the-variants.{Told}
+use Rattle.message_rules.specs.declared.Kind.{Kind}
+use Rattle.message_rules.specs.declared.Kind.the-variants.{TelecommandAck, TelecommandNack, TelemetryResponse, TelemetryNack}
+use Rattle.message_rules.specs.declared.Message.{Message}
+use Rattle.link_rules.specs.Link.{linkWrite}
+use Rattle.link_rules.specs.declared.Link.{Link}
+use Rattle.device_rules.specs.declared.Device.{Device}
+use Rattle.device_rules.specs.declared.Fault.the-variants.{None, Nack}
+use Rattle.device_rules.specs.Commands.{commandDone, afterCommand}
+use Rattle.device_rules.specs.Faults.{commandFault}
+use Rattle.device_rules.specs.Receive.{answers, answerSource, answerTo, infoBytes, commandAnswer, commandReply, telecommandReply, telemetryReply}
+
+-- An answer to a message, with an error byte and an index.
+abbrev pub answerOf : Link → ℕ → Message → Kind → ℕ → ℕ → Message
+answerOf l own m k e i =
+    record { kind = k; id = m .id; source = answerSource l own m; destination = m .source; error = Told e; index = i }
+
+module _ (d : Device) (m : Message) where
+  abbrev answer : Kind → ℕ → ℕ → Message
+  answer = answerOf (d .link) (d .own) m
+
+  -- A command without a fault is carried out and acked.
+  pub command-acked : (store : ℕ) (p : List ℕ) → commandFault d store (m .id) p ≡ None
+      → telecommandReply d store m p ≡ about (answers (commandDone d (m .id) p)) (linkWrite (d .link) (answer TelecommandAck 0 0) [])
+  unfolding commandReply afterCommand commandAnswer answerTo
+  command-acked store p h = rw h
+
+  -- A nack tells error byte and index of the fault, and "a nack changes nothing".
+  pub command-nacked : (store : ℕ) (p : List ℕ) (e i : ℕ) → commandFault d store (m .id) p ≡ Nack e i
+      → telecommandReply d store m p ≡ about (answers d) (linkWrite (d .link) (answer TelecommandNack e i) [])
+  unfolding commandReply afterCommand commandAnswer answerTo
+  command-nacked store p e i h = rw h
+
+  -- "150 frame info | request | never",
+  pub info-answered : m .id ≡ 150 → telemetryReply d m ≡ about (answers d) (linkWrite (d .link) (answer TelemetryResponse 0 0) (infoBytes (d .transfer)))
+  unfolding telemetryReply answerTo
+  info-answered h = rw (eq-eqb (m .id) 150 h)
+
+  -- and "any other ID: error 1", with index 0.
+  pub telemetry-nacked : (m .id ≡ 150 → ⊥) → telemetryReply d m ≡ about (answers d) (linkWrite (d .link) (answer TelemetryNack 1 0) [])
+  unfolding telemetryReply answerTo
+  telemetry-nacked other = rw (ne-eqb (m .id) 150 other)
