@@ -1,6 +1,5 @@
 -- What is told of a reply, and what the output and the unit are then: of silence, and of what a writer answered.
 use Prim.Native.Nat.{ℕ}
-use mathlib.Core.Bool.{Bool, cond}
 use mathlib.Core.List.{List, []}
 use mathlib.Core.Path.{_≡_, refl}
 use native.Mathlib.Omega.{arith}
@@ -11,12 +10,13 @@ use Rattle.message_rules.specs.declared.Message.{Message}
 use Rattle.message_rules.specs.declared.Refusal.{Refusal}
 use Rattle.message_rules.specs.declared.WriteAnswer.the-variants as WriteAnswer·of
 use Rattle.message_rules.proofs.Answers.{long-enough, within-about}
-use Rattle.link_rules.specs.Link.{linkRead, linkWrite}
+use Rattle.link_rules.specs.Link.{linkWrite}
+use Rattle.device_rules.specs.declared.Addressing.{Addressing}
 use Rattle.device_rules.specs.declared.Device.{Device}
 use Rattle.device_rules.specs.declared.Fault.{Fault}
 use Rattle.device_rules.specs.Commands.{afterCommand}
 use Rattle.device_rules.specs.Answers.{receiveResult, afterReceive}
-use Rattle.device_rules.specs.Receive.{Reply, answers, silent, commandAnswer, commandReply, isTaken, silence, kindReply, messageReply, receive}
+use Rattle.device_rules.specs.Receive.{Reply, answers, silent, commandAnswer, commandReply, silence, kindReply, addressedReply}
 use Rattle.device_rules.specs.declared.Outcome.the-variants as Outcome·of
 use Rattle.device_rules.specs.declared.Received.{Received}
 
@@ -29,22 +29,15 @@ Gives d out x r out′ =
 pub equal-gives : (d : Device) (out : List ℕ) (x y : Answer Reply (List ℕ)) (r : Received) (out′ : List ℕ) → x ≡ y → Gives d out y r out′ → Gives d out x r out′
 equal-gives d out x y r out′ e g = rw e g
 
-pub silence-gives : (d : Device) (out : List ℕ) (x : Answer Reply (List ℕ)) (r : Received) → (r .device ≡ d) × (r .outcome ≡ Outcome·of.Silent) → x ≡ silence d → Gives d out x r out
+pub silence-gives : (d next : Device) (out : List ℕ) (x : Answer Reply (List ℕ)) (r : Received) → (r .device ≡ next) × (r .outcome ≡ Outcome·of.Silent) → x ≡ silence next → Gives d out x r out
 unfolding receiveResult afterReceive counted outputAfter
-silence-gives d out x r says e = rw (e, long-enough out (silent d) [] (omega arith), says .0, says .1) (refl, (refl, refl))
+silence-gives d next out x r says e = rw (e, long-enough out (silent next) [] (omega arith), says .0, says .1) (refl, (refl, refl))
 
 pub by-kind : (k k′ : Kind) (d : Device) (store : ℕ) (m : Message) (p : List ℕ) → k ≡ k′ → kindReply k d store m p ≡ kindReply k′ d store m p
 by-kind k k′ d store m p e = rw e
 
--- Bytes that read as a refusal, and a message that is not for the unit or is.
-pub refused-reply : (d : Device) (store : ℕ) (b : List ℕ) (n : ℕ) → linkRead (d .link) b ≡ refused n → receive d store b ≡ silence d
-unfolding receive messageReply
-refused-reply d store b n e = rw e
-
-pub message-reply : (d : Device) (store : ℕ) (b : List ℕ) (m : Message) (p : List ℕ) (t : Bool) → linkRead (d .link) b ≡ given m p → isTaken (d .link) (d .own) m ≡ t
-    → receive d store b ≡ cond t (kindReply (m .kind) d store m p) (silence d)
-unfolding receive messageReply
-message-reply d store b m p t e q = rw (e, q)
+pub by-addressing : (a a′ : Addressing) (d : Device) (store : ℕ) (m : Message) (p : List ℕ) → a ≡ a′ → addressedReply a d store m p ≡ addressedReply a′ d store m p
+by-addressing a a′ d store m p e = rw e
 
 -- A command by its fault, with the unit and the answer that it comes to.
 pub command-reply : (d : Device) (m : Message) (p : List ℕ) (f f′ : Fault) (next : Device) (answer : Message) → f′ ≡ f → next ≡ afterCommand d (m .id) p f

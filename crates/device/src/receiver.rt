@@ -6,7 +6,8 @@ ghost use Rattle.message_rules.specs.Answer.{within, counted, outputAfter, abou
 ghost use Rattle.link_rules.specs.Link.{linkWrite};
 ghost use Rattle.device_rules.specs.Device.{isFinished};
 ghost use Rattle.device_rules.specs.Answers.{receiveResult, afterReceive};
-ghost use Rattle.device_rules.specs.Receive.{isTaken, answerSource, answerTo, infoBytes, commandAnswer, telecommandReply, telemetryReply, kindReply, receive, answers};
+ghost use Rattle.device_rules.specs.Receive.{addressing, answerSource, answerTo, infoBytes, commandAnswer, telecommandReply, telemetryReply, kindReply, afterBroadcast, addressedReply, receive, answers};
+use device_rules::Addressing;
 use device_rules::Device;
 use device_rules::Fault;
 use device_rules::Outcome;
@@ -20,7 +21,7 @@ use message_rules::Message;
 use message_rules::ReadAnswer;
 use message_rules::WriteAnswer;
 
-// Takes bytes that arrived while a store is lent; an answer goes to the start of out.
+// Takes bytes that arrived while a store is lent; an answer goes to the start of out. Answered or not, the unit may be another afterwards.
 pub fn receive(device: Device, bytes: &[u8], store: &[u8], out: &mut [u8]) -> Received
     ensures { λ r. ⌜ receiveResult (r .outcome) (r .device) ≡ counted (within (now (out .entry)) (receive device (length (now (store .entry))) (now (bytes .entry)))) ⌝ }
     ensures { λ r. ⌜ r .device ≡ afterReceive device (within (now (out .entry)) (receive device (length (now (store .entry))) (now (bytes .entry)))) ⌝ }
@@ -31,10 +32,7 @@ pub fn receive(device: Device, bytes: &[u8], store: &[u8], out: &mut [u8]) -> Re
     let ReadAnswer::Message(message, length) = link_reader::read(link, bytes, &mut payload) else {
         return silence(device);
     };
-    if !is_taken(link, device.own, message) {
-        return silence(device);
-    }
-    reply(device, store.len(), message, &payload[..length], out)
+    addressed_reply(device, store.len(), message, &payload[..length], out)
 }
 
 fn silence(device: Device) -> Received
@@ -46,19 +44,75 @@ fn silence(device: Device) -> Received
     }
 }
 
-fn is_taken(link: Link, own: u8, message: Message) -> bool
-    ensures { λ r. ⌜ r ≡ isTaken link own message ⌝ }
+fn addressing(link: Link, own: u8, message: Message) -> Addressing
+    ensures { λ r. ⌜ r ≡ addressing link own message ⌝ }
 {
     match link {
-        Link::Uart => true,
-        Link::Rs485 => message.destination == own || message.destination == 0,
-        Link::Can => true,
-        Link::Csp => true,
+        Link::Uart => Addressing::Own,
+        Link::Rs485 => {
+            if message.destination == 0 {
+                return Addressing::Broadcast;
+            }
+            if message.destination == own {
+                return Addressing::Own;
+            }
+            Addressing::Other
+        }
+        Link::Can => Addressing::Own,
+        Link::Csp => Addressing::Own,
+    }
+}
+
+// A message that is the unit's is answered by its kind, a broadcast carried out without an answer, and another's passed over.
+fn addressed_reply(
+    device: Device,
+    store: usize,
+    message: Message,
+    payload: &[u8],
+    out: &mut [u8],
+) -> Received
+    ensures { λ r. ⌜ receiveResult (r .outcome) (r .device) ≡ counted (within (now (out .entry)) (addressedReply (addressing (device .link) (device .own) message) device store message (now (payload .entry)))) ⌝ }
+    ensures { λ r. ⌜ r .device ≡ afterReceive device (within (now (out .entry)) (addressedReply (addressing (device .link) (device .own) message) device store message (now (payload .entry)))) ⌝ }
+    ensures { λ _. ⌜ now (out .exit) ≡ outputAfter (within (now (out .entry)) (addressedReply (addressing (device .link) (device .own) message) device store message (now (payload .entry)))) (now (out .entry)) ⌝ }
+{
+    let link = device.link;
+    match addressing(link, device.own, message) {
+        Addressing::Own => kind_reply(device, store, message, payload, out),
+        Addressing::Broadcast => {
+            let next = after_broadcast(device, store, message, payload);
+            silence(next)
+        }
+        Addressing::Other => silence(device),
+    }
+}
+
+// The unit after a broadcast, which nobody answers: a telecommand is carried out, everything else is passed over.
+fn after_broadcast(device: Device, store: usize, message: Message, payload: &[u8]) -> Device
+    ensures { λ r. ⌜ r ≡ afterBroadcast device store message (now (payload .entry)) ⌝ }
+{
+    let kind = message.kind;
+    match kind {
+        Kind::Telecommand => {
+            let commanded = device_commands::carry_out(device, store, message.id, payload);
+            commanded.device
+        }
+        Kind::TelecommandAck => device,
+        Kind::TelecommandNack => device,
+        Kind::TelemetryRequest => device,
+        Kind::TelemetryResponse => device,
+        Kind::TelemetryNack => device,
+        Kind::Event => device,
     }
 }
 
 // The reply to a message for the unit, by its kind.
-fn reply(device: Device, store: usize, message: Message, payload: &[u8], out: &mut [u8]) -> Received
+fn kind_reply(
+    device: Device,
+    store: usize,
+    message: Message,
+    payload: &[u8],
+    out: &mut [u8],
+) -> Received
     ensures { λ r. ⌜ receiveResult (r .outcome) (r .device) ≡ counted (within (now (out .entry)) (kindReply (message .kind) device store message (now (payload .entry)))) ⌝ }
     ensures { λ r. ⌜ r .device ≡ afterReceive device (within (now (out .entry)) (kindReply (message .kind) device store message (now (payload .entry)))) ⌝ }
     ensures { λ _. ⌜ now (out .exit) ≡ outputAfter (within (now (out .entry)) (kindReply (message .kind) device store message (now (payload .entry)))) (now (out .entry)) ⌝ }

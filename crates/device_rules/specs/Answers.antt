@@ -7,6 +7,7 @@ use Rattle.device_rules.specs.Receive.{Reply, answers, silent}
 use Rattle.device_rules.specs.declared.Outcome.{Outcome}
 use Rattle.device_rules.specs.declared.Outcome.the-variants as Outcome·of
 
+-- Silence too says what the unit is then: it may have carried out a broadcast (document 02, ticket 2).
 unfoldable pub receiveResult : Outcome → Device → Answer Reply ℕ
 receiveResult (Outcome·of.Answer n) d = given (answers d) n
 receiveResult Outcome·of.Silent d = given (silent d) 0

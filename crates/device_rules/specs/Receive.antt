@@ -1,6 +1,6 @@
 -- What the unit does with bytes that arrive (document 01, "The unit").
 use Prim.Native.Nat.{ℕ}
-use mathlib.Core.Bool.{Bool, true, cond, _||_}
+use mathlib.Core.Bool.{cond}
 use mathlib.Core.List.{List, [], _∷_, _++_}
 use lib.Dec.{eqb}
 use lib.ListN.{length}
@@ -8,6 +8,7 @@ use Rattle.message_rules.specs.Answer.{Answer, refused, given, about}
 use Rattle.message_rules.specs.declared.ErrorByte.the-variants.{Told}
 use Rattle.message_rules.specs.declared.Kind.{Kind}
 use Rattle.message_rules.specs.declared.Kind.the-variants as Kind·of
+use Rattle.message_rules.specs.Kinds.{isTelecommand}
 use Rattle.message_rules.specs.declared.Message.{Message}
 use Rattle.little_endian_rules.specs.LittleEndian.{toBytes}
 use Rattle.file_rules.specs.Checksum.{checksum}
@@ -15,6 +16,8 @@ use Rattle.link_rules.specs.Link.{linkRead, linkWrite}
 use Rattle.link_rules.specs.declared.Link.{Link}
 use Rattle.link_rules.specs.declared.Link.the-variants.{Uart, Rs485, Can, Csp}
 use Rattle.device_rules.specs.Device.{isFinished, bufferedFrame}
+use Rattle.device_rules.specs.declared.Addressing.{Addressing}
+use Rattle.device_rules.specs.declared.Addressing.the-variants.{Own, Broadcast, Other}
 use Rattle.device_rules.specs.declared.Device.{Device}
 use Rattle.device_rules.specs.declared.Transfer.{Transfer}
 use Rattle.device_rules.specs.Faults.{commandFault}
@@ -22,18 +25,18 @@ use Rattle.device_rules.specs.declared.Fault.{Fault}
 use Rattle.device_rules.specs.declared.Fault.the-variants.{None, Nack}
 use Rattle.device_rules.specs.Commands.{afterCommand}
 
--- The unit after a call that was not refused: it answers, or it is silent.
+-- The unit after a call that was not refused: it answers, or it is silent, and either way it may have changed.
 pub data Reply : Type 0 where
   answers : Device → Reply
   silent : Device → Reply
 
--- "On RS485 a message for the unit's own address or for 0 is taken [..]; on CAN and CSP every message is the unit's", and on UART, which
--- has no addresses.
-unfoldable pub isTaken : Link → ℕ → Message → Bool
-isTaken Uart own m = true
-isTaken Rs485 own m = eqb (m .destination) own || eqb (m .destination) 0
-isTaken Can own m = true
-isTaken Csp own m = true
+-- "On RS485 a message for the unit's own address [..] is taken", and one for 0 is a broadcast (document 02, ticket 2); "others are passed
+-- over". "On CAN and CSP every message is the unit's", and on UART, which has no addresses.
+unfoldable pub addressing : Link → ℕ → Message → Addressing
+addressing Uart own m = Own
+addressing Rs485 own m = cond (eqb (m .destination) 0) Broadcast (cond (eqb (m .destination) own) Own Other)
+addressing Can own m = Own
+addressing Csp own m = Own
 
 -- "Answered from its own address to the request's source"; "a CAN answer has the request's two addresses exchanged". Where the link has no
 -- addresses both are 0.
@@ -53,7 +56,7 @@ unfoldable pub infoBytes : Transfer → List ℕ
 infoBytes t =
     toBytes 2 (t .number) ++ (toBytes 2 (length (bufferedFrame t)) ++ (toBytes 2 (checksum (bufferedFrame t)) ++ (cond (isFinished (t .phase)) 1 0 ∷ [])))
 
--- No answer: no bytes, so it is never refused.
+-- No answer, from a unit that is this one then: no bytes, so it is never refused.
 abbrev pub silence : Device → Answer Reply (List ℕ)
 silence d = given (silent d) []
 
@@ -87,10 +90,21 @@ kindReply Kind·of.TelemetryResponse d store m p = silence d
 kindReply Kind·of.TelemetryNack d store m p = silence d
 kindReply Kind·of.Event d store m p = silence d
 
--- "Others are passed over in silence." "Unreadable bytes get no answer."
+-- "A broadcast telecommand is carried out [..], and a broadcast telemetry request is passed over" (document 02, ticket 2), as the kinds are that
+-- get no answer.
+unfoldable pub afterBroadcast : Device → ℕ → Message → List ℕ → Device
+afterBroadcast d store m p = cond (isTelecommand (m .kind)) (afterCommand d (m .id) p (commandFault d store (m .id) p)) d
+
+-- A message that is the unit's is answered by its kind. A broadcast "gets no answer", whatever it did. "Others are passed over in silence."
+unfoldable pub addressedReply : Addressing → Device → ℕ → Message → List ℕ → Answer Reply (List ℕ)
+addressedReply Own d store m p = kindReply (m .kind) d store m p
+addressedReply Broadcast d store m p = silence (afterBroadcast d store m p)
+addressedReply Other d store m p = silence d
+
+-- "Unreadable bytes get no answer."
 unfoldable pub messageReply : Device → ℕ → Answer Message (List ℕ) → Answer Reply (List ℕ)
 messageReply d store (refused n) = silence d
-messageReply d store (given m p) = cond (isTaken (d .link) (d .own) m) (kindReply (m .kind) d store m p) (silence d)
+messageReply d store (given m p) = addressedReply (addressing (d .link) (d .own) m) d store m p
 
 -- Bytes arrive while a store of so many bytes is lent. The 8 comes with the lent output.
 unfoldable pub receive : Device → ℕ → List ℕ → Answer Reply (List ℕ)

@@ -38,6 +38,13 @@ pub struct Device {
     pub transfer: Transfer,
 }
 
+// How a message is addressed: to this unit, to every unit at once (document 02's broadcast), or to another one.
+pub enum Addressing {
+    Own,
+    Broadcast,
+    Other,
+}
+
 // The answer of making a unit and of the work step. A refused work step leaves unit and store as they came.
 pub struct UnitAnswer {
     pub device: Device,
@@ -50,7 +57,8 @@ pub enum Fault {
     Nack(u8, u8),
 }
 
-// What receiving bytes comes to: an answer of this length lies at the start of the lent output, or there is none.
+// What receiving bytes comes to: an answer of this length lies at the start of the lent output, or there is none. A unit that is silent may
+// have changed.
 pub enum Outcome {
     Answer(usize),
     Silent,

@@ -25,7 +25,7 @@ use Rattle.round_rules.specs.World as round·World
 use Rattle.round_rules.specs.Schedule as round·Schedule
 use Rattle.link_rules.specs.declared.Link.{Link}
 use Rattle.link_rules.specs.declared.Link.the-variants.{Uart, Rs485, Can, Csp}
-use Rattle.marked_rules.proofs.Setups.{Accepts}
+use Rattle.marked_rules.proofs.Setups.{Accepts, AcceptsBroadcast}
 use Rattle.marked_rules.specs.Cases.{setupBytes, opened, afterRounds, askedAgain, NothingLost, AnswerLost, cases, AllHold}
 
 on-every : (P : Link → Type 0) → P Uart → P Rs485 → P Can → P Csp → (l : Link) → P l
@@ -34,8 +34,8 @@ on-every P uart rs485 can csp Rs485 = rs485
 on-every P uart rs485 can csp Can = can
 on-every P uart rs485 can csp Csp = csp
 
--- All is computed under one list of definitions: the cases, and the setup that demand 3 begins with, which `Starts` cites.
-computed : AllHold cases × ((l : Link) → Accepts l)
+-- All is computed under one list of definitions: the cases, and the setups that demand 3 begins with, which `Starts` cites.
+computed : AllHold cases × ((l : Link) → Accepts l) × AcceptsBroadcast
 unfolding setupBytes opened afterRounds askedAgain
     little_endian·LittleEndian.fromBytes little_endian·LittleEndian.toBytes
     message·Answer.require message·Answer.after message·Answer.within message·Answer.about
@@ -60,8 +60,8 @@ unfolding setupBytes opened afterRounds askedAgain
     device·Faults.commandFault
     device·Commands.newTransfer device·Commands.takeDone device·Commands.frameDone device·Commands.transferDone device·Commands.commandDone
     device·Commands.afterCommand
-    device·Receive.isTaken device·Receive.answerSource device·Receive.answerTo device·Receive.infoBytes device·Receive.commandAnswer
-    device·Receive.commandReply device·Receive.telemetryReply device·Receive.kindReply device·Receive.messageReply device·Receive.receive
+    device·Receive.addressing device·Receive.answerSource device·Receive.answerTo device·Receive.infoBytes device·Receive.commandAnswer
+    device·Receive.commandReply device·Receive.telemetryReply device·Receive.kindReply device·Receive.afterBroadcast device·Receive.addressedReply device·Receive.messageReply device·Receive.receive
     device·Answers.afterReceive
     device·Work.frameStored device·Work.hasRoom device·Work.work device·Work.storeAfter device·Work.afterWork
     sender·Sender.newSender sender·Sender.addressesLegal sender·Sender.start sender·Sender.requestPayload sender·Sender.requestMessage
@@ -75,11 +75,15 @@ unfolding setupBytes opened afterRounds askedAgain
 computed =
     let p11 : (l : Link) → NothingLost l = on-every NothingLost (refl, refl, refl, refl) (refl, refl, refl, refl) (refl, refl, refl, refl) (refl, refl, refl, refl) in
     let p12 : (l : Link) → AnswerLost l = on-every AnswerLost (refl, refl, refl) (refl, refl, refl) (refl, refl, refl) (refl, refl, refl) in
-    let setup : (l : Link) → Accepts l = on-every Accepts (refl, refl, refl, refl) (refl, refl, refl, refl) (refl, refl, refl, refl) (refl, refl, refl, refl) in
-    ((refl, (refl, (refl, (refl, (refl, (refl, (refl, ((refl, refl), ((refl, refl), ((refl, refl), ((refl, refl), (refl, (refl, (refl, (p11, (p12, tt)))))))))))))))), setup)
+    let setup : (l : Link) → Accepts l = on-every Accepts (refl, refl, refl, refl, refl, refl) (refl, refl, refl, refl, refl, refl) (refl, refl, refl, refl, refl, refl) (refl, refl, refl, refl, refl, refl) in
+    let broadcast : AcceptsBroadcast = (refl, refl, refl, refl, refl, refl) in
+    ((refl, (refl, (refl, (refl, (refl, (refl, (refl, ((refl, refl), ((refl, refl), ((refl, refl), ((refl, refl), (refl, (refl, (refl, (p11, (p12, tt)))))))))))))))), setup, broadcast)
 
 pub marked : AllHold cases
 marked = computed .0
 
 pub setup-accepted : (l : Link) → Accepts l
 setup-accepted = computed .1
+
+pub broadcast-accepted : AcceptsBroadcast
+broadcast-accepted = computed .2

@@ -1,6 +1,6 @@
--- The setup of P11 and P12, on every link: a new unit with own address 31 takes it, with the addresses that its link carries.
+-- The setup of P11 and P12, on every link: a new unit with own address 31 takes it; and on RS485 the same setup for every unit.
 use Prim.Native.Nat.{ℕ}
-use mathlib.Core.List.{[]}
+use mathlib.Core.List.{List, []}
 use mathlib.Core.Path.{_≡_}
 use lib.ListN.{length}
 use Rattle.message_rules.specs.Answer.{given, within}
@@ -9,28 +9,40 @@ use Rattle.little_endian_rules.specs.LittleEndian.{toBytes}
 use Rattle.link_rules.specs.Link.{linkRead}
 use Rattle.link_rules.specs.declared.Link.{Link}
 use Rattle.link_rules.specs.declared.Link.the-variants.{Uart, Rs485, Can, Csp}
+use Rattle.device_rules.specs.Answers.{afterReceive}
 use Rattle.device_rules.specs.Device.{newDevice}
 use Rattle.device_rules.specs.Faults.{commandFault}
-use Rattle.device_rules.specs.Receive.{answers, receive}
+use Rattle.device_rules.specs.Receive.{Reply, answers, silent, addressing, receive}
+use Rattle.device_rules.specs.declared.Addressing.{Addressing}
+use Rattle.device_rules.specs.declared.Addressing.the-variants.{Own, Broadcast}
+use Rattle.device_rules.specs.declared.Device.{Device}
 use Rattle.device_rules.specs.declared.Fault.the-variants.{None}
 use Rattle.round_rules.specs.Schedule.{output}
 use Rattle.round_rules.specs.World.{bytesOr}
 use Rattle.sender_rules.specs.Sender.{start}
 use Rattle.marked_rules.specs.Cases.{plain, setupBytes, opened}
 
--- It reads as telecommand 20 with these addresses, the unit answers and carries it out, and a sender starts.
-abbrev pub Accepted : Link → ℕ → ℕ → Type 0
-Accepted l source destination =
+-- Written for a destination, it reads as telecommand 20 with these addresses, the call is not refused and leaves the unit opened, answered or not,
+-- and a sender starts.
+abbrev pub Accepted : Link → ℕ → ℕ → ℕ → Addressing → List ℕ → (Device → Reply) → Type 0
+Accepted l to source destination a out reply =
     let unit = newDevice l 31 in
     let room = length (opened l .store) in
-    let ack = bytesOr [] (receive unit room (setupBytes l)) in
-    (linkRead l (setupBytes l) ≡ given (plain Telecommand 20 source destination) (toBytes 4 300))
-    × (within output (receive unit room (setupBytes l)) ≡ given (answers (opened l .device)) ack)
+    let answer = bytesOr [] (receive unit room (setupBytes l to)) in
+    (linkRead l (setupBytes l to) ≡ given (plain Telecommand 20 source destination) (toBytes 4 300))
+    × (addressing l 31 (plain Telecommand 20 source destination) ≡ a)
+    × (within out (receive unit room (setupBytes l to)) ≡ given (reply (opened l .device)) answer)
+    × (afterReceive unit (given (reply (opened l .device)) answer) ≡ opened l .device)
     × (commandFault unit room 20 (toBytes 4 300) ≡ None)
     × (start l 255 31 300 ≡ given (opened l .requester) tt)
 
+-- For the unit alone, with the addresses that its link carries, acked:
 abbrev pub Accepts : Link → Type 0
-Accepts Uart = Accepted Uart 0 0
-Accepts Rs485 = Accepted Rs485 255 31
-Accepts Can = Accepted Can 255 31
-Accepts Csp = Accepted Csp 0 0
+Accepts Uart = Accepted Uart 31 0 0 Own output answers
+Accepts Rs485 = Accepted Rs485 31 255 31 Own output answers
+Accepts Can = Accepted Can 31 255 31 Own output answers
+Accepts Csp = Accepted Csp 31 0 0 Own output answers
+
+-- and for every unit, in silence and without an output.
+abbrev pub AcceptsBroadcast : Type 0
+AcceptsBroadcast = Accepted Rs485 0 255 0 Broadcast [] silent

@@ -52,16 +52,16 @@ emptyStore = replicate 303 0xA5
 abbrev pub fullStore : List ℕ
 fullStore = file ++ replicate 3 0xA5
 
--- The bytes of the setup on a link.
-unfoldable pub setupBytes : Link → List ℕ
-setupBytes l = bytesOr [] (linkWrite l (plain Telecommand 20 255 31) (toBytes 4 300))
+-- The bytes of the setup on a link, for a destination.
+unfoldable pub setupBytes : Link → ℕ → List ℕ
+setupBytes l destination = bytesOr [] (linkWrite l (plain Telecommand 20 255 destination) (toBytes 4 300))
 
--- Unit and sender after the setup, which arrives as bytes on the link.
+-- Unit and sender after the setup for the unit, which arrives as bytes on the link.
 unfoldable pub opened : Link → World Sender
 opened l =
     let unit = newDevice l 31 in
     record {
-      device = afterReceive unit (receive unit 303 (setupBytes l));
+      device = afterReceive unit (receive unit 303 (setupBytes l 31));
       store = emptyStore;
       requester = newSender l 255 31 300;
       request = [];

@@ -1,7 +1,7 @@
 -- An accepted setup and a started sender stand at the head of the table. Carried by taking the unit's and the sender's own definitions
 -- apart: which tests passed, and what was made then.
 use Prim.Native.Nat.{ℕ, _≤_, min, zero-le}
-use mathlib.Core.Bool.{Bool, true, false, cond, not}
+use mathlib.Core.Bool.{true, false, not}
 use mathlib.Core.List.{List, []}
 use mathlib.Core.Path.{_≡_, refl, sym, ap, _∙_}
 use native.Mathlib.Omega.{arith}
@@ -9,20 +9,18 @@ use borrow.Author.Tests.{ltb-true, ltb-false, le-ltb, ne-eqb}
 use lib.Dec.{ltb}
 use lib.ListN.{length}
 use Rattle.message_rules.proofs.Answers.{after-given}
-use Rattle.message_rules.specs.Answer.{Answer, refused, given, passed, require, about}
+use Rattle.message_rules.specs.Answer.{passed, require}
 use Rattle.message_rules.proofs.Checks.{require-passed, both-true, both-false}
 use Rattle.little_endian_rules.specs.LittleEndian.{fromBytes}
 use Rattle.file_rules.specs.File.{sizeLegal, frameCount}
 use Rattle.link_rules.specs.declared.Link.{Link}
 use Rattle.link_rules.specs.declared.Link.the-variants.{Uart, Rs485, Can, Csp}
-use Rattle.link_rules.proofs.Laws.{within-given}
 use Rattle.device_rules.specs.declared.Device.{Device}
 use Rattle.device_rules.specs.Faults.{setupFault, commandFault}
 use Rattle.device_rules.specs.declared.Fault.the-variants.{None}
-use Rattle.device_rules.specs.Commands.{newTransfer, transferDone, commandDone, afterCommand}
+use Rattle.device_rules.specs.Commands.{newTransfer, transferDone, commandDone}
 use Rattle.device_rules.specs.Device.{emptyBuffer, withTransfer}
 use Rattle.device_rules.specs.declared.Transfer.{Transfer}
-use Rattle.device_rules.specs.Receive.{Reply, answers, silent, isTaken, commandReply, kindReply, messageReply, receive}
 use Rattle.sender_rules.specs.Sender.{newSender, addressesLegal, start}
 use Rattle.sender_rules.specs.declared.Sender.{Sender}
 use Rattle.sender_rules.specs.declared.Stage.the-variants.{Frame}
@@ -33,6 +31,7 @@ use Rattle.round_rules.proofs.Counting.{tally-begins}
 use Rattle.upload_rules.proofs.Exchange.{Addressed}
 use Rattle.sender_rules.proofs.Sizes.{count-legal}
 use Rattle.upload_rules.proofs.Files.{store-first}
+use Rattle.device_rules.proofs.Addressed.{carried-out}
 use Rattle.device_rules.proofs.Faults.{fault-none, transferAt}
 use Rattle.round_rules.proofs.Steady.{runs}
 use Rattle.upload_rules.proofs.Table.{Upload, free, markOf, RunsOrEnded}
@@ -57,16 +56,6 @@ setup-passed t store p e =
     let three = fault-none 3 0 _ None (seven .1) in
     ltb-false store (fromBytes p) (both-false (not (sizeLegal (fromBytes p))) _ (three .0) .1)
 
--- The unit that answered the setup.
-answered-given : (d d′ : Device) (x : Answer Unit (List ℕ)) (b : List ℕ) → about (answers d) x ≡ given (answers d′) b → d ≡ d′
-unfolding about
-answered-given d d′ (refused n) b e = absurd (let z : _≡_ {A = ℕ} 0 1 = cc in omega arith)
-answered-given d d′ (given u b′) b e = cc
-
-taken-given : (t : Bool) (d d′ : Device) (x : Answer Reply (List ℕ)) (b : List ℕ) → cond t x (given (silent d) []) ≡ given (answers d′) b → x ≡ given (answers d′) b
-taken-given true d d′ x b e = e
-taken-given false d d′ x b e = absurd (let z : _≡_ {A = ℕ} 0 1 = cc in omega arith)
-
 setup-transfer : (n : ℕ) → 1 ≤ frameCount n → newTransfer n ≡ transferAt n 0 emptyBuffer 0 false
 unfolding newTransfer
 setup-transfer n some =
@@ -75,12 +64,10 @@ setup-transfer n some =
 
 module _ (file : List ℕ) (w : World Sender) (st : Start file w) where
   setup-done : w .device ≡ withTransfer (st .unit) (newTransfer (length file))
-  unfolding receive messageReply kindReply commandReply afterCommand commandDone transferDone
+  unfolding commandDone transferDone
   setup-done =
-      let received = within-given (st .output) (receive (st .unit) (length (w .store)) (st .bytes)) (answers (w .device)) (st .ack) (st .answered) .0 in
-      let served = taken-given (isTaken (st .unit .link) (st .unit .own) (st .message)) (st .unit) (w .device) _ (st .ack) (rw (st .reads) at received) in
-      let carried = answered-given (commandDone (st .unit) (st .message .id) (st .payload)) (w .device) _ (st .ack) (rw (st .command, st .carriedOut) at served) in
-      sym (rw (st .setup, st .size) at carried)
+      let done = carried-out (st .unit) (length (w .store)) (st .bytes) (st .message) (st .payload) (st .reads) (st .output) (st .reply) (st .answer) (st .command) (st .carriedOut) (st .taken) (st .unrefused) in
+      sym (st .leaves) ∙ (rw (st .setup, st .size) at done)
 
   pub setup-room : length file ≤ length (w .store)
   unfolding commandFault

@@ -4,6 +4,7 @@ use Prim.Native.Nat.{ℕ, _<_}
 use mathlib.Core.Bool.{true, false, not, _&&_, _||_}
 use mathlib.Core.List.{List}
 use mathlib.Core.Path.{_≡_, refl, sym}
+use native.Mathlib.Omega.{arith}
 use borrow.Author.Tests.{eq-eqb}
 use lib.Dec.{eqb}
 use lib.ListN.{length}
@@ -18,7 +19,9 @@ use Rattle.link_rules.specs.declared.Link.{Link}
 use Rattle.link_rules.specs.declared.Link.the-variants.{Uart, Rs485, Can, Csp}
 use Rattle.link_rules.proofs.Laws.{LegalMessage}
 use Rattle.link_rules.proofs.RoundTrip.{Arrives, legal-arrives}
-use Rattle.device_rules.specs.Receive.{isTaken, answerSource}
+use Rattle.device_rules.specs.Receive.{addressing, answerSource}
+use Rattle.device_rules.specs.declared.Addressing.the-variants.{Own}
+use Rattle.device_rules.proofs.Addressed.{unit-own}
 use Rattle.device_rules.proofs.Replies.{answerOf}
 use Rattle.sender_rules.specs.Sender.{requestKind, requestId}
 use Rattle.sender_rules.specs.declared.Stage.{Stage}
@@ -67,13 +70,13 @@ request-arrives l s t own id k p a h = legal-arrives l _ p (request-legal l s t 
 pub answer-arrives : (l : Link) (s t own : ℕ) (m : Message) (k : Kind) (e i : ℕ) (p : List ℕ) → Addressed l s t own → Plain (answerOf l own m k e i) p → Arrives l (answerOf l own m k e i) p
 answer-arrives l s t own m k e i p a h = legal-arrives l _ p (answer-legal l s t own m k e i p a h)
 
--- A request is for the unit.
-pub request-taken : (l : Link) (s t own id : ℕ) (k : Kind) → Addressed l s t own → isTaken l own (linkCarried l (requestOf k id s t)) ≡ true
-unfolding isTaken linkCarried carriedOn
-request-taken Uart s t own id k a = refl
-request-taken Rs485 s t own id k a = rw (eq-eqb t own (a .2))
-request-taken Can s t own id k a = refl
-request-taken Csp s t own id k a = refl
+-- A request is for the unit alone.
+pub request-own : (l : Link) (s t own id : ℕ) (k : Kind) → Addressed l s t own → addressing l own (linkCarried l (requestOf k id s t)) ≡ Own
+unfolding addressing linkCarried carriedOn
+request-own Uart s t own id k a = refl
+request-own Rs485 s t own id k a = unit-own own (linkCarried Rs485 (requestOf k id s t)) (λ zero. omega (arith, zero, a .1, a .2)) (a .2)
+request-own Can s t own id k a = refl
+request-own Csp s t own id k a = refl
 
 -- The addresses of an answer fit the request's.
 pub answer-fits : (l : Link) (s t own id : ℕ) (k k′ : Kind) (e i : ℕ) → Addressed l s t own

@@ -23,7 +23,7 @@ use Rattle.device_rules.specs.Device.{isFinished, bufferedFrame, emptyBuffer, w
 use Rattle.device_rules.specs.declared.Device.{Device}
 use Rattle.device_rules.specs.declared.Phase.the-variants.{Open, Finished}
 use Rattle.device_rules.specs.Commands.{takeDone, frameDone, transferDone, commandDone, afterCommand}
-use Rattle.device_rules.specs.Receive.{answers, answerTo, infoBytes, commandAnswer, commandReply, telemetryReply, kindReply, messageReply, receive}
+use Rattle.device_rules.specs.Receive.{answers, answerTo, infoBytes, commandAnswer, commandReply, telemetryReply, kindReply, receive}
 use Rattle.sender_rules.specs.Hearing.{fits, takenError, ackMeaning, nackMeaning, infoMeaning, kindMeaning, meaning}
 use Rattle.sender_rules.specs.Sender.{requestKind, requestId}
 use Rattle.sender_rules.specs.declared.Meaning.{Meaning}
@@ -32,9 +32,10 @@ use Rattle.sender_rules.specs.declared.Sender.{Sender}
 use Rattle.sender_rules.specs.declared.Stage.{Stage}
 use Rattle.sender_rules.specs.declared.Stage.the-variants.{Frame, Back, Compare, Take, Confirm}
 use Rattle.round_rules.specs.declared.State.the-variants.{Running}
-use Rattle.upload_rules.proofs.Exchange.{Addressed, requestOf, requestRead, Plain, answer-arrives, request-taken, answer-fits}
+use Rattle.upload_rules.proofs.Exchange.{Addressed, requestOf, requestRead, Plain, answer-arrives, request-own, answer-fits}
 use Rattle.sender_rules.proofs.Infos.{info-length, info-compared, info-confirmed}
 use Rattle.sender_rules.proofs.Stages.{taken-on}
+use Rattle.device_rules.proofs.Addressed.{own-replied}
 use Rattle.device_rules.proofs.Replies.{answerOf}
 use Rattle.device_rules.proofs.Faults.{transferAt, frame-taken, take-taken, take-pending, take-stored}
 use Rattle.sender_rules.proofs.Situations.{senderAt}
@@ -87,7 +88,7 @@ module _ (d : Device) (s t : ℕ) (a : Addressed (d .link) s t (d .own)) (file :
         → Plain (answer-to stage k e index) q
         → kindMeaning k (senderAt l s t n i stage since rounds Running) file (linkCarried l (answer-to stage k e index)) q ≡ x
         → Served file (senderAt l s t n i stage since rounds Running) (unit j buffer buffered pending) store b d′ x
-    unfolding receive messageReply about meaning fits linkCarried carriedOn
+    unfolding about meaning fits linkCarried carriedOn
     served j buffer buffered pending d′ k e index q x reply plain means =
         let back = answer-arrives l s t own (asked stage) k e index q a plain in
         let id : linkCarried l (answer-to stage k e index) .id ≡ requestId stage =
@@ -97,7 +98,7 @@ module _ (d : Device) (s t : ℕ) (a : Addressed (d .link) s t (d .own)) (file :
           payload = q;
           bytes = back .0;
           underway = back .1;
-          gives = rw (reads, request-taken l s t own (requestId stage) (requestKind stage) a, reply, back .1 .wrote);
+          gives = own-replied (unit j buffer buffered pending) store b (asked stage) p reads (request-own l s t own (requestId stage) (requestKind stage) a) ∙ rw (reply, back .1 .wrote);
           means = rw (back .1 .reads, eq-eqb (linkCarried l (answer-to stage k e index) .id) (requestId stage) id, answer-fits l s t own (requestId stage) (requestKind stage) k e index a) means;
         }
 

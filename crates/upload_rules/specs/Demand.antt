@@ -16,7 +16,9 @@ use Rattle.device_rules.specs.declared.Device.{Device}
 use Rattle.device_rules.specs.declared.Phase.the-variants as Phase·of
 use Rattle.device_rules.specs.Faults.{commandFault}
 use Rattle.device_rules.specs.declared.Fault.the-variants.{None}
-use Rattle.device_rules.specs.Receive.{answers, receive}
+use Rattle.device_rules.specs.Answers.{afterReceive}
+use Rattle.device_rules.specs.Receive.{Reply, addressing, receive}
+use Rattle.device_rules.specs.declared.Addressing.the-variants.{Other}
 use Rattle.round_rules.specs.Good.{goodRounds, NoFiftyWithout}
 use Rattle.round_rules.specs.Legal.{Legal, between, Beginning}
 use Rattle.round_rules.specs.Requester.{isRunning}
@@ -36,16 +38,19 @@ pub record Start (file : List ℕ) (w : World Sender) : Type 0 where
   pub unit : Device
   pub bytes : List ℕ
   pub output : List ℕ
-  -- they read on its link as telecommand 20 with the file's length,
+  -- they read on its link as telecommand 20 with the file's length, for this unit or for all (document 02, ticket 2);
   pub message : Message
   pub payload : List ℕ
   pub reads : linkRead (unit .link) bytes ≡ given message payload
   pub command : message .kind ≡ Telecommand
   pub setup : message .id ≡ 20
   pub size : fromBytes payload ≡ length file
-  -- the unit answered, and carried it out without a fault;
-  pub ack : List ℕ
-  pub answered : within output (receive unit (length (w .store)) bytes) ≡ given (answers (w .device)) ack
+  pub taken : addressing (unit .link) (unit .own) message ≡ Other → ⊥
+  -- the call was not refused, whether the unit answered or not, and left this unit; no fault kept it from carrying the setup out;
+  pub reply : Reply
+  pub answer : List ℕ
+  pub unrefused : within output (receive unit (length (w .store)) bytes) ≡ given reply answer
+  pub leaves : afterReceive unit (given reply answer) ≡ w .device
   pub carriedOut : commandFault unit (length (w .store)) (message .id) payload ≡ None
   -- and a sender was started on the same link for a file of this length, on RS485 to the unit's own address.
   pub source : ℕ

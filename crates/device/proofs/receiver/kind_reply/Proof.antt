@@ -2,8 +2,8 @@
 use Rattle.device_rules.specs.Receive.{kindReply}
 use Rattle.device.proofs.Replies.{equal-gives, silence-gives, by-kind}
 use borrow.Author.Needs.{needs}
-use Rattle.device.proofs.receiver.reply.Statement.{statement}
-use Rattle.device.proofs.receiver.reply.Tie as tie
+use Rattle.device.proofs.receiver.kind_reply.Statement.{statement}
+use Rattle.device.proofs.receiver.kind_reply.Tie as tie
 
 enum-told : tie.Need-enum-told
 enum-told c = search needs
@@ -56,11 +56,11 @@ returns c = equal-gives _ _ _ _ _ _ (by-kind _ _ _ _ _ _ (c .before .before .bef
 
 returns-2 : tie.Need-returns-2
 unfolding kindReply
-returns-2 c = silence-gives _ _ _ _ (c .silence .ensures) (by-kind _ _ _ _ _ _ (c .before .enum-told2 .given .1))
+returns-2 c = silence-gives _ _ _ _ _ (c .silence .ensures) (by-kind _ _ _ _ _ _ (c .before .enum-told2 .given .1))
 
 returns-3 : tie.Need-returns-3
 unfolding kindReply
-returns-3 c = silence-gives _ _ _ _ (c .silence2 .ensures) (by-kind _ _ _ _ _ _ (c .before .enum-told3 .given .1))
+returns-3 c = silence-gives _ _ _ _ _ (c .silence2 .ensures) (by-kind _ _ _ _ _ _ (c .before .enum-told3 .given .1))
 
 same-length-2 : tie.Need-same-length-2
 same-length-2 c = search needs
@@ -71,18 +71,18 @@ returns-4 c = equal-gives _ _ _ _ _ _ (by-kind _ _ _ _ _ _ (c .before .before .b
 
 returns-5 : tie.Need-returns-5
 unfolding kindReply
-returns-5 c = silence-gives _ _ _ _ (c .silence3 .ensures) (by-kind _ _ _ _ _ _ (c .before .enum-told5 .given .1))
+returns-5 c = silence-gives _ _ _ _ _ (c .silence3 .ensures) (by-kind _ _ _ _ _ _ (c .before .enum-told5 .given .1))
 
 returns-6 : tie.Need-returns-6
 unfolding kindReply
-returns-6 c = silence-gives _ _ _ _ (c .silence4 .ensures) (by-kind _ _ _ _ _ _ (c .before .enum-told6 .given .1))
+returns-6 c = silence-gives _ _ _ _ _ (c .silence4 .ensures) (by-kind _ _ _ _ _ _ (c .before .enum-told6 .given .1))
 
 returns-7 : tie.Need-returns-7
 unfolding kindReply
-returns-7 c = silence-gives _ _ _ _ (c .silence5 .ensures) (by-kind _ _ _ _ _ _ (c .before .enum-told7 .given .1))
+returns-7 c = silence-gives _ _ _ _ _ (c .silence5 .ensures) (by-kind _ _ _ _ _ _ (c .before .enum-told7 .given .1))
 
-pub reply-spec : {M : Type 1} → statement M
-reply-spec =
+pub kind-reply-spec : {M : Type 1} → statement M
+kind-reply-spec =
     tie.close
     (tie.spec
     enum-told
