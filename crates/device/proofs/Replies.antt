@@ -9,14 +9,15 @@ use Rattle.message_rules.specs.declared.Kind.{Kind}
 use Rattle.message_rules.specs.declared.Message.{Message}
 use Rattle.message_rules.specs.declared.Refusal.{Refusal}
 use Rattle.message_rules.specs.declared.WriteAnswer.the-variants as WriteAnswer·of
-use Rattle.message_rules.proofs.Answers.{long-enough, within-about}
+use Rattle.message_rules.proofs.Answers.{within-about}
 use Rattle.link_rules.specs.Link.{linkWrite}
 use Rattle.device_rules.specs.declared.Addressing.{Addressing}
 use Rattle.device_rules.specs.declared.Device.{Device}
 use Rattle.device_rules.specs.declared.Fault.{Fault}
 use Rattle.device_rules.specs.Commands.{afterCommand}
 use Rattle.device_rules.specs.Answers.{receiveResult, afterReceive}
-use Rattle.device_rules.specs.Receive.{Reply, answers, silent, commandAnswer, commandReply, silence, kindReply, addressedReply}
+use Rattle.device_rules.specs.Receive.{Reply, answers, commandAnswer, commandReply, silence, kindReply, addressedReply}
+use Rattle.device_rules.proofs.Receive.{silence-fits}
 use Rattle.device_rules.specs.declared.Outcome.the-variants as Outcome·of
 use Rattle.device_rules.specs.declared.Received.{Received}
 
@@ -31,7 +32,7 @@ equal-gives d out x y r out′ e g = rw e g
 
 pub silence-gives : (d next : Device) (out : List ℕ) (x : Answer Reply (List ℕ)) (r : Received) → (r .device ≡ next) × (r .outcome ≡ Outcome·of.Silent) → x ≡ silence next → Gives d out x r out
 unfolding receiveResult afterReceive counted outputAfter
-silence-gives d next out x r says e = rw (e, long-enough out (silent next) [] (omega arith), says .0, says .1) (refl, (refl, refl))
+silence-gives d next out x r says e = rw (e, silence-fits next out, says .0, says .1) (refl, (refl, refl))
 
 pub by-kind : (k k′ : Kind) (d : Device) (store : ℕ) (m : Message) (p : List ℕ) → k ≡ k′ → kindReply k d store m p ≡ kindReply k′ d store m p
 by-kind k k′ d store m p e = rw e

@@ -2,11 +2,11 @@
 ghost use mathlib.Core.Bool.{cond};
 ghost use mathlib.Core.Path.{_≡_};
 ghost use lib.ListN.{length};
-ghost use Rattle.message_rules.specs.Answer.{within, counted, outputAfter, about};
+ghost use Rattle.message_rules.specs.Answer.{given, within, counted, outputAfter, about};
 ghost use Rattle.link_rules.specs.Link.{linkWrite};
 ghost use Rattle.device_rules.specs.Device.{isFinished};
 ghost use Rattle.device_rules.specs.Answers.{receiveResult, afterReceive};
-ghost use Rattle.device_rules.specs.Receive.{addressing, answerSource, answerTo, infoBytes, commandAnswer, telecommandReply, telemetryReply, kindReply, afterBroadcast, addressedReply, receive, answers};
+ghost use Rattle.device_rules.specs.Receive.{addressing, answerSource, answerTo, infoBytes, commandAnswer, telecommandReply, telemetryReply, kindReply, afterBroadcast, messageReply, receive, answers};
 use device_rules::Addressing;
 use device_rules::Device;
 use device_rules::Fault;
@@ -21,7 +21,7 @@ use message_rules::Message;
 use message_rules::ReadAnswer;
 use message_rules::WriteAnswer;
 
-// Takes bytes that arrived while a store is lent; an answer goes to the start of out. Answered or not, the unit may be another afterwards.
+// Takes bytes that arrived while a store is lent; an answer goes to the start of out. Answered or not, the unit may have changed.
 pub fn receive(device: Device, bytes: &[u8], store: &[u8], out: &mut [u8]) -> Received
     ensures { λ r. ⌜ receiveResult (r .outcome) (r .device) ≡ counted (within (now (out .entry)) (receive device (length (now (store .entry))) (now (bytes .entry)))) ⌝ }
     ensures { λ r. ⌜ r .device ≡ afterReceive device (within (now (out .entry)) (receive device (length (now (store .entry))) (now (bytes .entry)))) ⌝ }
@@ -32,7 +32,7 @@ pub fn receive(device: Device, bytes: &[u8], store: &[u8], out: &mut [u8]) -> Re
     let ReadAnswer::Message(message, length) = link_reader::read(link, bytes, &mut payload) else {
         return silence(device);
     };
-    addressed_reply(device, store.len(), message, &payload[..length], out)
+    message_reply(device, store.len(), message, &payload[..length], out)
 }
 
 fn silence(device: Device) -> Received
@@ -64,16 +64,16 @@ fn addressing(link: Link, own: u8, message: Message) -> Addressing
 }
 
 // A message that is the unit's is answered by its kind, a broadcast carried out without an answer, and another's passed over.
-fn addressed_reply(
+fn message_reply(
     device: Device,
     store: usize,
     message: Message,
     payload: &[u8],
     out: &mut [u8],
 ) -> Received
-    ensures { λ r. ⌜ receiveResult (r .outcome) (r .device) ≡ counted (within (now (out .entry)) (addressedReply (addressing (device .link) (device .own) message) device store message (now (payload .entry)))) ⌝ }
-    ensures { λ r. ⌜ r .device ≡ afterReceive device (within (now (out .entry)) (addressedReply (addressing (device .link) (device .own) message) device store message (now (payload .entry)))) ⌝ }
-    ensures { λ _. ⌜ now (out .exit) ≡ outputAfter (within (now (out .entry)) (addressedReply (addressing (device .link) (device .own) message) device store message (now (payload .entry)))) (now (out .entry)) ⌝ }
+    ensures { λ r. ⌜ receiveResult (r .outcome) (r .device) ≡ counted (within (now (out .entry)) (messageReply device store (given message (now (payload .entry))))) ⌝ }
+    ensures { λ r. ⌜ r .device ≡ afterReceive device (within (now (out .entry)) (messageReply device store (given message (now (payload .entry))))) ⌝ }
+    ensures { λ _. ⌜ now (out .exit) ≡ outputAfter (within (now (out .entry)) (messageReply device store (given message (now (payload .entry))))) (now (out .entry)) ⌝ }
 {
     let link = device.link;
     match addressing(link, device.own, message) {

@@ -1,6 +1,6 @@
 pub mod Order
 pub mod Replies
-pub mod Addressed
+pub mod Receive
 pub mod Buffers
 pub mod Payloads
 pub mod Faults

@@ -1,12 +1,12 @@
 -- What the unit answers to each kind of request: carried by the definitions of the answers, opened.
 use Prim.Native.Nat.{ℕ}
 use mathlib.Core.List.{List, []}
-use mathlib.Core.Path.{_≡_}
+use mathlib.Core.Path.{_≡_, refl}
 use borrow.Author.Tests.{eq-eqb, ne-eqb}
 use Rattle.message_rules.specs.Answer.{about}
 use Rattle.message_rules.specs.declared.ErrorByte.the-variants.{Told}
 use Rattle.message_rules.specs.declared.Kind.{Kind}
-use Rattle.message_rules.specs.declared.Kind.the-variants.{TelecommandAck, TelecommandNack, TelemetryResponse, TelemetryNack}
+use Rattle.message_rules.specs.declared.Kind.the-variants.{Telecommand, TelecommandAck, TelecommandNack, TelemetryRequest, TelemetryResponse, TelemetryNack, Event}
 use Rattle.message_rules.specs.declared.Message.{Message}
 use Rattle.link_rules.specs.Link.{linkWrite}
 use Rattle.link_rules.specs.declared.Link.{Link}
@@ -14,12 +14,23 @@ use Rattle.device_rules.specs.declared.Device.{Device}
 use Rattle.device_rules.specs.declared.Fault.the-variants.{None, Nack}
 use Rattle.device_rules.specs.Commands.{commandDone, afterCommand}
 use Rattle.device_rules.specs.Faults.{commandFault}
-use Rattle.device_rules.specs.Receive.{answers, answerSource, answerTo, infoBytes, commandAnswer, commandReply, telecommandReply, telemetryReply}
+use Rattle.device_rules.specs.Receive.{answers, answerSource, answerTo, infoBytes, silence, commandAnswer, commandReply, telecommandReply, telemetryReply, kindReply}
 
 -- An answer to a message, with an error byte and an index.
 abbrev pub answerOf : Link → ℕ → Message → Kind → ℕ → ℕ → Message
 answerOf l own m k e i =
     record { kind = k; id = m .id; source = answerSource l own m; destination = m .source; error = Told e; index = i }
+
+-- "Kinds other than tc and tlmreq get no answer."
+pub others-silent : (k : Kind) (d : Device) (store : ℕ) (m : Message) (p : List ℕ) → (k ≡ Telecommand → ⊥) → (k ≡ TelemetryRequest → ⊥) → kindReply k d store m p ≡ silence d
+unfolding kindReply
+others-silent Telecommand d store m p command request = absurd (command refl)
+others-silent TelecommandAck d store m p command request = refl
+others-silent TelecommandNack d store m p command request = refl
+others-silent TelemetryRequest d store m p command request = absurd (request refl)
+others-silent TelemetryResponse d store m p command request = refl
+others-silent TelemetryNack d store m p command request = refl
+others-silent Event d store m p command request = refl
 
 module _ (d : Device) (m : Message) where
   abbrev answer : Kind → ℕ → ℕ → Message

@@ -56,7 +56,7 @@ unfoldable pub infoBytes : Transfer → List ℕ
 infoBytes t =
     toBytes 2 (t .number) ++ (toBytes 2 (length (bufferedFrame t)) ++ (toBytes 2 (checksum (bufferedFrame t)) ++ (cond (isFinished (t .phase)) 1 0 ∷ [])))
 
--- No answer, from a unit that is this one then: no bytes, so it is never refused.
+-- No answer, and the unit as it is then: no bytes, so it is never refused.
 abbrev pub silence : Device → Answer Reply (List ℕ)
 silence d = given (silent d) []
 
@@ -90,8 +90,8 @@ kindReply Kind·of.TelemetryResponse d store m p = silence d
 kindReply Kind·of.TelemetryNack d store m p = silence d
 kindReply Kind·of.Event d store m p = silence d
 
--- "A broadcast telecommand is carried out [..], and a broadcast telemetry request is passed over" (document 02, ticket 2), as the kinds are that
--- get no answer.
+-- "A broadcast telecommand is carried out [..], and a broadcast telemetry request is passed over" (document 02, ticket 2), as are
+-- the kinds that get no answer anyway.
 unfoldable pub afterBroadcast : Device → ℕ → Message → List ℕ → Device
 afterBroadcast d store m p = cond (isTelecommand (m .kind)) (afterCommand d (m .id) p (commandFault d store (m .id) p)) d
 

@@ -61,8 +61,8 @@ unfolding setupBytes opened afterRounds askedAgain
     device·Commands.newTransfer device·Commands.takeDone device·Commands.frameDone device·Commands.transferDone device·Commands.commandDone
     device·Commands.afterCommand
     device·Receive.addressing device·Receive.answerSource device·Receive.answerTo device·Receive.infoBytes device·Receive.commandAnswer
-    device·Receive.commandReply device·Receive.telemetryReply device·Receive.kindReply device·Receive.afterBroadcast device·Receive.addressedReply device·Receive.messageReply device·Receive.receive
-    device·Answers.afterReceive
+    device·Receive.commandReply device·Receive.telemetryReply device·Receive.kindReply
+    device·Receive.afterBroadcast device·Receive.addressedReply device·Receive.messageReply device·Receive.receive device·Answers.afterReceive
     device·Work.frameStored device·Work.hasRoom device·Work.work device·Work.storeAfter device·Work.afterWork
     sender·Sender.newSender sender·Sender.addressesLegal sender·Sender.start sender·Sender.requestPayload sender·Sender.requestMessage
     sender·Sender.sameFile sender·Sender.request sender·Sender.framesKnown

@@ -1,4 +1,4 @@
--- The setup of P11 and P12, on every link: a new unit with own address 31 takes it; and on RS485 the same setup for every unit.
+-- The setup of P11 and P12, on every link: a new unit with own address 31 takes it; and on RS485 the same setup as a broadcast.
 use Prim.Native.Nat.{ℕ}
 use mathlib.Core.List.{List, []}
 use mathlib.Core.Path.{_≡_}
@@ -6,9 +6,9 @@ use lib.ListN.{length}
 use Rattle.message_rules.specs.Answer.{given, within}
 use Rattle.message_rules.specs.declared.Kind.the-variants.{Telecommand}
 use Rattle.little_endian_rules.specs.LittleEndian.{toBytes}
-use Rattle.link_rules.specs.Link.{linkRead}
+use Rattle.link_rules.specs.Link.{linkCarried, linkRead}
 use Rattle.link_rules.specs.declared.Link.{Link}
-use Rattle.link_rules.specs.declared.Link.the-variants.{Uart, Rs485, Can, Csp}
+use Rattle.link_rules.specs.declared.Link.the-variants.{Rs485}
 use Rattle.device_rules.specs.Answers.{afterReceive}
 use Rattle.device_rules.specs.Device.{newDevice}
 use Rattle.device_rules.specs.Faults.{commandFault}
@@ -22,27 +22,24 @@ use Rattle.round_rules.specs.World.{bytesOr}
 use Rattle.sender_rules.specs.Sender.{start}
 use Rattle.marked_rules.specs.Cases.{plain, setupBytes, opened}
 
--- Written for a destination, it reads as telecommand 20 with these addresses, the call is not refused and leaves the unit opened, answered or not,
--- and a sender starts.
-abbrev pub Accepted : Link → ℕ → ℕ → ℕ → Addressing → List ℕ → (Device → Reply) → Type 0
-Accepted l to source destination a out reply =
+-- Written for a destination, it reads as telecommand 20, the call is not refused and leaves the unit opened, answered or not, and a sender starts.
+abbrev pub Accepted : Link → ℕ → Addressing → List ℕ → (Device → Reply) → Type 0
+Accepted l destination a out reply =
     let unit = newDevice l 31 in
     let room = length (opened l .store) in
-    let answer = bytesOr [] (receive unit room (setupBytes l to)) in
-    (linkRead l (setupBytes l to) ≡ given (plain Telecommand 20 source destination) (toBytes 4 300))
-    × (addressing l 31 (plain Telecommand 20 source destination) ≡ a)
-    × (within out (receive unit room (setupBytes l to)) ≡ given (reply (opened l .device)) answer)
-    × (afterReceive unit (given (reply (opened l .device)) answer) ≡ opened l .device)
+    let message = linkCarried l (plain Telecommand 20 255 destination) in
+    let answer = bytesOr [] (receive unit room (setupBytes l destination)) in
+    (linkRead l (setupBytes l destination) ≡ given message (toBytes 4 300))
+    × (addressing l 31 message ≡ a)
     × (commandFault unit room 20 (toBytes 4 300) ≡ None)
+    × (within out (receive unit room (setupBytes l destination)) ≡ given (reply (opened l .device)) answer)
+    × (afterReceive unit (given (reply (opened l .device)) answer) ≡ opened l .device)
     × (start l 255 31 300 ≡ given (opened l .requester) tt)
 
--- For the unit alone, with the addresses that its link carries, acked:
+-- For the unit, acked,
 abbrev pub Accepts : Link → Type 0
-Accepts Uart = Accepted Uart 31 0 0 Own output answers
-Accepts Rs485 = Accepted Rs485 31 255 31 Own output answers
-Accepts Can = Accepted Can 31 255 31 Own output answers
-Accepts Csp = Accepted Csp 31 0 0 Own output answers
+Accepts l = Accepted l 31 Own output answers
 
--- and for every unit, in silence and without an output.
+-- and as a broadcast, in silence and without an output.
 abbrev pub AcceptsBroadcast : Type 0
-AcceptsBroadcast = Accepted Rs485 0 255 0 Broadcast [] silent
+AcceptsBroadcast = Accepted Rs485 0 Broadcast [] silent

@@ -15,7 +15,6 @@ use Rattle.little_endian_rules.specs.LittleEndian.{fromBytes}
 use Rattle.file_rules.specs.File.{sizeLegal, frameCount}
 use Rattle.link_rules.specs.declared.Link.{Link}
 use Rattle.link_rules.specs.declared.Link.the-variants.{Uart, Rs485, Can, Csp}
-use Rattle.device_rules.specs.declared.Device.{Device}
 use Rattle.device_rules.specs.Faults.{setupFault, commandFault}
 use Rattle.device_rules.specs.declared.Fault.the-variants.{None}
 use Rattle.device_rules.specs.Commands.{newTransfer, transferDone, commandDone}
@@ -31,7 +30,7 @@ use Rattle.round_rules.proofs.Counting.{tally-begins}
 use Rattle.upload_rules.proofs.Exchange.{Addressed}
 use Rattle.sender_rules.proofs.Sizes.{count-legal}
 use Rattle.upload_rules.proofs.Files.{store-first}
-use Rattle.device_rules.proofs.Addressed.{carried-out}
+use Rattle.device_rules.proofs.Receive.{carried-out}
 use Rattle.device_rules.proofs.Faults.{fault-none, transferAt}
 use Rattle.round_rules.proofs.Steady.{runs}
 use Rattle.upload_rules.proofs.Table.{Upload, free, markOf, RunsOrEnded}
@@ -66,12 +65,12 @@ module _ (file : List ℕ) (w : World Sender) (st : Start file w) where
   setup-done : w .device ≡ withTransfer (st .unit) (newTransfer (length file))
   unfolding commandDone transferDone
   setup-done =
-      let done = carried-out (st .unit) (length (w .store)) (st .bytes) (st .message) (st .payload) (st .reads) (st .output) (st .reply) (st .answer) (st .command) (st .carriedOut) (st .taken) (st .unrefused) in
+      let done = carried-out (st .unit) (length (w .store)) (st .bytes) (st .message) (st .payload) (st .reads) (st .output) (st .reply) (st .answer) (st .command) (st .noFault) (st .forUnit) (st .unrefused) in
       sym (st .leaves) ∙ (rw (st .setup, st .size) at done)
 
   pub setup-room : length file ≤ length (w .store)
   unfolding commandFault
-  setup-room = rw (← st .size) (setup-passed (st .unit .transfer) (length (w .store)) (st .payload) (rw (st .setup) at (st .carriedOut)))
+  setup-room = rw (← st .size) (setup-passed (st .unit .transfer) (length (w .store)) (st .payload) (rw (st .setup) at (st .noFault)))
 
   sender-checks : (require (sizeLegal (length file)) 11 (require (addressesLegal (st .unit .link) (st .source) (st .destination)) 7 passed) ≡ passed)
       × (newSender (st .unit .link) (st .source) (st .destination) (length file) ≡ w .requester)

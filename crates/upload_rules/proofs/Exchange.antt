@@ -21,7 +21,7 @@ use Rattle.link_rules.proofs.Laws.{LegalMessage}
 use Rattle.link_rules.proofs.RoundTrip.{Arrives, legal-arrives}
 use Rattle.device_rules.specs.Receive.{addressing, answerSource}
 use Rattle.device_rules.specs.declared.Addressing.the-variants.{Own}
-use Rattle.device_rules.proofs.Addressed.{unit-own}
+use Rattle.device_rules.proofs.Receive.{unit-own}
 use Rattle.device_rules.proofs.Replies.{answerOf}
 use Rattle.sender_rules.specs.Sender.{requestKind, requestId}
 use Rattle.sender_rules.specs.declared.Stage.{Stage}

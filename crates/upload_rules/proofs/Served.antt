@@ -35,7 +35,7 @@ use Rattle.round_rules.specs.declared.State.the-variants.{Running}
 use Rattle.upload_rules.proofs.Exchange.{Addressed, requestOf, requestRead, Plain, answer-arrives, request-own, answer-fits}
 use Rattle.sender_rules.proofs.Infos.{info-length, info-compared, info-confirmed}
 use Rattle.sender_rules.proofs.Stages.{taken-on}
-use Rattle.device_rules.proofs.Addressed.{own-replied}
+use Rattle.device_rules.proofs.Receive.{own-replied}
 use Rattle.device_rules.proofs.Replies.{answerOf}
 use Rattle.device_rules.proofs.Faults.{transferAt, frame-taken, take-taken, take-pending, take-stored}
 use Rattle.sender_rules.proofs.Situations.{senderAt}

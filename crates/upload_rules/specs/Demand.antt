@@ -38,20 +38,20 @@ pub record Start (file : List ℕ) (w : World Sender) : Type 0 where
   pub unit : Device
   pub bytes : List ℕ
   pub output : List ℕ
-  -- they read on its link as telecommand 20 with the file's length, for this unit or for all (document 02, ticket 2);
+  -- they read on its link as telecommand 20 with the file's length, for the unit or a broadcast (document 02, ticket 2);
   pub message : Message
   pub payload : List ℕ
   pub reads : linkRead (unit .link) bytes ≡ given message payload
   pub command : message .kind ≡ Telecommand
   pub setup : message .id ≡ 20
   pub size : fromBytes payload ≡ length file
-  pub taken : addressing (unit .link) (unit .own) message ≡ Other → ⊥
-  -- the call was not refused, whether the unit answered or not, and left this unit; no fault kept it from carrying the setup out;
+  pub forUnit : addressing (unit .link) (unit .own) message ≡ Other → ⊥
+  -- no fault kept the unit from carrying it out; the call was not refused, whether it was answered or not, and w has the unit that it left;
+  pub noFault : commandFault unit (length (w .store)) (message .id) payload ≡ None
   pub reply : Reply
   pub answer : List ℕ
   pub unrefused : within output (receive unit (length (w .store)) bytes) ≡ given reply answer
   pub leaves : afterReceive unit (given reply answer) ≡ w .device
-  pub carriedOut : commandFault unit (length (w .store)) (message .id) payload ≡ None
   -- and a sender was started on the same link for a file of this length, on RS485 to the unit's own address.
   pub source : ℕ
   pub destination : ℕ

@@ -1,8 +1,8 @@
 -- Carried by what the reader answers: a payload always fits the 256 bytes, so a refusal is one of the bytes themselves.
-use mathlib.Core.Path.{refl, sym}
+use mathlib.Core.Path.{sym}
 use lib.Seq.{length-take-le}
 use Rattle.link_rules.proofs.Reading.{unreadable, readable}
-use Rattle.device_rules.proofs.Addressed.{unreadable-silent, message-replied}
+use Rattle.device_rules.proofs.Receive.{unreadable-silent, message-replied}
 use Rattle.device.proofs.Replies.{equal-gives, silence-gives}
 use borrow.Author.Needs.{needs}
 use Rattle.device.proofs.receiver.receive.Statement.{statement}
@@ -33,11 +33,11 @@ array-share-prefix-payload c =
     let e = c .before .before .before .before .read .ensures in
     readable _ _ _ _ (e .0) (e .1) _ _ (c .before .message .given .1) .1
 
-slice-aggregate-addressed-reply : tie.Need-slice-aggregate-addressed-reply
-slice-aggregate-addressed-reply c = sym (length-take-le _ _ (array-share-prefix-payload (c .before)))
+slice-aggregate-message-reply : tie.Need-slice-aggregate-message-reply
+slice-aggregate-message-reply c = sym (length-take-le _ _ (array-share-prefix-payload (c .before)))
 
-addressed-reply-requires : tie.Need-addressed-reply-requires
-addressed-reply-requires c κs = search needs
+message-reply-requires : tie.Need-message-reply-requires
+message-reply-requires c κs = search needs
 
 same-length : tie.Need-same-length
 same-length c = search needs
@@ -47,7 +47,7 @@ returns-2 c =
     let found = c .before .before .before .before .before .before .message in
     let e = c .before .before .before .before .before .before .before .before .before .read .ensures in
     let m = readable _ _ _ _ (e .0) (e .1) _ _ (found .given .1) in
-    equal-gives _ _ _ _ _ _ (message-replied _ _ _ _ _ (m .0) _ refl) (c .before .before .addressed-reply .ensures)
+    equal-gives _ _ _ _ _ _ (message-replied _ _ _ _ _ (m .0)) (c .before .before .message-reply .ensures)
 
 pub receive-spec : {M : Type 1} → statement M
 receive-spec =
@@ -60,7 +60,7 @@ receive-spec =
     silence-requires
     returns
     array-share-prefix-payload
-    slice-aggregate-addressed-reply
-    addressed-reply-requires
+    slice-aggregate-message-reply
+    message-reply-requires
     same-length
     returns-2)

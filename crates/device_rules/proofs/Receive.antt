@@ -1,8 +1,8 @@
--- Which messages the unit takes, and what becomes of a broadcast: carried by the definitions, opened at the link and at the destination.
+-- Which messages are the unit's, and what becomes of a broadcast: carried by the definitions, opened at the link and at the destination.
 use Prim.Native.Nat.{ℕ}
 use mathlib.Core.Bool.{false}
 use mathlib.Core.List.{List, []}
-use mathlib.Core.Path.{_≡_, refl, sym, _∙_}
+use mathlib.Core.Path.{_≡_, refl, sym, ap, _∙_}
 use native.Mathlib.Omega.{arith}
 use borrow.Author.Tests.{eq-eqb, ne-eqb}
 use Rattle.message_rules.specs.Answer.{Answer, refused, given, within, about}
@@ -35,15 +35,24 @@ every-own Csp own m other = refl
 module _ (own : ℕ) (m : Message) where
   pub zero-broadcast : m .destination ≡ 0 → addressing Rs485 own m ≡ Broadcast
   unfolding addressing
-  zero-broadcast all = simp (eq-eqb (m .destination) 0 all)
+  zero-broadcast zero = simp (eq-eqb (m .destination) 0 zero)
 
   pub unit-own : (m .destination ≡ 0 → ⊥) → m .destination ≡ own → addressing Rs485 own m ≡ Own
   unfolding addressing
-  unit-own one same = simp (ne-eqb (m .destination) 0 one, eq-eqb (m .destination) own same)
+  unit-own nonzero same = simp (ne-eqb (m .destination) 0 nonzero, eq-eqb (m .destination) own same)
 
   pub unit-other : (m .destination ≡ 0 → ⊥) → (m .destination ≡ own → ⊥) → addressing Rs485 own m ≡ Other
   unfolding addressing
-  unit-other one another = simp (ne-eqb (m .destination) 0 one, ne-eqb (m .destination) own another)
+  unit-other nonzero another = simp (ne-eqb (m .destination) 0 nonzero, ne-eqb (m .destination) own another)
+
+-- Silence fits every output.
+pub silence-fits : (d : Device) (out : List ℕ) → within out (silence d) ≡ given (silent d) []
+silence-fits d out = long-enough out (silent d) [] (omega arith)
+
+-- "Unreadable bytes get no answer."
+pub unreadable-silent : (d : Device) (store : ℕ) (b : List ℕ) (n : ℕ) → linkRead (d .link) b ≡ refused n → receive d store b ≡ silence d
+unfolding receive messageReply
+unreadable-silent d store b n e = rw e
 
 -- The unit that a reply leaves, where its answer was written.
 answered-unit : (d next : Device) (x : Answer Unit (List ℕ)) (r : Reply) (answer : List ℕ) → about (answers next) x ≡ given r answer → afterReceive d (given r answer) ≡ next
@@ -51,67 +60,62 @@ unfolding about afterReceive
 answered-unit d next (refused n) r answer e = absurd (let z : _≡_ {A = ℕ} 0 1 = cc in omega arith)
 answered-unit d next (given u bytes) r answer e = let same : answers next ≡ r = cc in rw (← same)
 
--- "Unreadable bytes get no answer."
-pub unreadable-silent : (d : Device) (store : ℕ) (b : List ℕ) (n : ℕ) → linkRead (d .link) b ≡ refused n → receive d store b ≡ silence d
-unfolding receive messageReply
-unreadable-silent d store b n e = rw e
-
 -- A message arrives while a store of so many bytes is lent.
 module _ (d : Device) (store : ℕ) (b : List ℕ) (m : Message) (p : List ℕ) (reads : linkRead (d .link) b ≡ given m p) where
-  pub message-replied : (a : Addressing) → addressing (d .link) (d .own) m ≡ a → receive d store b ≡ addressedReply a d store m p
-  unfolding receive messageReply
-  message-replied a e = rw (reads, e)
+  pub message-replied : receive d store b ≡ messageReply d store (given m p)
+  unfolding receive
+  message-replied = rw reads
+
+  addressed-replied : (a : Addressing) → addressing (d .link) (d .own) m ≡ a → receive d store b ≡ addressedReply a d store m p
+  unfolding messageReply
+  addressed-replied a e = message-replied ∙ rw e
 
   -- The unit's own messages are answered by their kind; "others are passed over in silence."
   pub own-replied : addressing (d .link) (d .own) m ≡ Own → receive d store b ≡ kindReply (m .kind) d store m p
   unfolding addressedReply
-  own-replied e = message-replied Own e
+  own-replied e = addressed-replied Own e
 
   pub others-passed : addressing (d .link) (d .own) m ≡ Other → receive d store b ≡ silence d
   unfolding addressedReply
-  others-passed e = message-replied Other e
+  others-passed e = addressed-replied Other e
 
   -- On RS485, for 0:
-  module _ (pair : d .link ≡ Rs485) (all : m .destination ≡ 0) where
+  module _ (rs485 : d .link ≡ Rs485) (zero : m .destination ≡ 0) where
     broadcast : addressing (d .link) (d .own) m ≡ Broadcast
-    broadcast = rw pair (zero-broadcast (d .own) m all)
+    broadcast = rw rs485 (zero-broadcast (d .own) m zero)
 
-    -- a telecommand with a fault gets no nack, and changes nothing;
-    pub broadcast-nacked : m .kind ≡ Telecommand → (e i : ℕ) → commandFault d store (m .id) p ≡ Nack e i → receive d store b ≡ silence d
-    unfolding addressedReply afterBroadcast afterCommand
-    broadcast-nacked k e i h = message-replied Broadcast broadcast ∙ simp (k, h)
+    -- a broadcast "gets no answer", so no output is too short for it;
+    pub broadcast-silent : (out : List ℕ) → within out (receive d store b) ≡ silence (afterBroadcast d store m p)
+    unfolding addressedReply
+    broadcast-silent out = ap (within out) (addressed-replied Broadcast broadcast) ∙ silence-fits _ out
 
-    -- without a fault "a broadcast telecommand is carried out and gets no answer",
+    -- "a broadcast telecommand is carried out",
     pub broadcast-done : m .kind ≡ Telecommand → commandFault d store (m .id) p ≡ None → receive d store b ≡ silence (commandDone d (m .id) p)
     unfolding addressedReply afterBroadcast afterCommand
-    broadcast-done k h = message-replied Broadcast broadcast ∙ simp (k, h)
+    broadcast-done k h = addressed-replied Broadcast broadcast ∙ simp (k, h)
+
+    -- with a fault it changes nothing,
+    pub broadcast-nacked : m .kind ≡ Telecommand → (e i : ℕ) → commandFault d store (m .id) p ≡ Nack e i → receive d store b ≡ silence d
+    unfolding addressedReply afterBroadcast afterCommand
+    broadcast-nacked k e i h = addressed-replied Broadcast broadcast ∙ simp (k, h)
 
     -- "and a broadcast telemetry request is passed over", as every other kind is.
     pub broadcast-passed : isTelecommand (m .kind) ≡ false → receive d store b ≡ silence d
     unfolding addressedReply afterBroadcast
-    broadcast-passed k = message-replied Broadcast broadcast ∙ simp k
-
-    -- Where there is no answer, no output is too short for it.
-    pub broadcast-unrefused : (out : List ℕ) (n : ℕ) → within out (receive d store b) ≡ refused n → ⊥
-    unfolding addressedReply
-    broadcast-unrefused out n e =
-        let none : receive d store b ≡ silence _ = message-replied Broadcast broadcast in
-        let same = sym (long-enough out _ [] (omega arith)) ∙ (rw none at e) in
-        let z : _≡_ {A = ℕ} 0 1 = cc in
-        omega arith
+    broadcast-passed k = addressed-replied Broadcast broadcast ∙ simp k
 
   -- Acked or not, a telecommand is carried out that has no fault and is not another unit's, unless the call is refused.
   pub carried-out : (out : List ℕ) (r : Reply) (answer : List ℕ) → m .kind ≡ Telecommand → commandFault d store (m .id) p ≡ None
       → (addressing (d .link) (d .own) m ≡ Other → ⊥) → within out (receive d store b) ≡ given r answer → afterReceive d (given r answer) ≡ commandDone d (m .id) p
   unfolding addressedReply afterBroadcast kindReply commandReply afterCommand afterReceive
-  carried-out out r answer k h taken e = by (addressing (d .link) (d .own) m) refl
+  carried-out out r answer k h forUnit e = by (addressing (d .link) (d .own) m) refl
     where
       received : receive d store b ≡ given r answer
       received = within-given out (receive d store b) r answer e .0
 
       by : (a : Addressing) → addressing (d .link) (d .own) m ≡ a → afterReceive d (given r answer) ≡ commandDone d (m .id) p
-      by Own q = answered-unit d _ _ r answer (rw (k, h) at (sym (message-replied Own q) ∙ received))
+      by Own q = answered-unit d _ _ r answer (rw (k, h) at (sym (addressed-replied Own q) ∙ received))
       by Broadcast q =
-          let same : silent (commandDone d (m .id) p) ≡ r = cc (rw (k, h) at (sym (message-replied Broadcast q) ∙ received)) in
+          let same : silent (commandDone d (m .id) p) ≡ r = cc (rw (k, h) at (sym (addressed-replied Broadcast q) ∙ received)) in
           rw (← same)
-      by Other q = absurd (taken q)
+      by Other q = absurd (forUnit q)
