@@ -63,7 +63,7 @@ fn addressing(link: Link, own: u8, message: Message) -> Addressing
     }
 }
 
-// A message that is the unit's is answered by its kind, a broadcast carried out without an answer, and another's passed over.
+// A message that is the unit's is answered by its kind, a broadcast gets no answer, whatever it does, and another's is passed over.
 fn message_reply(
     device: Device,
     store: usize,
@@ -86,7 +86,7 @@ fn message_reply(
     }
 }
 
-// The unit after a broadcast, which nobody answers: a telecommand is carried out, everything else is passed over.
+// The unit after a broadcast: a telecommand is carried out, unless it has a fault, and everything else is passed over.
 fn after_broadcast(device: Device, store: usize, message: Message, payload: &[u8]) -> Device
     ensures { λ r. ⌜ r ≡ afterBroadcast device store message (now (payload .entry)) ⌝ }
 {

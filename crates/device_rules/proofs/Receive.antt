@@ -1,4 +1,5 @@
--- Which messages are the unit's, and what becomes of a broadcast: carried by the definitions, opened at the link and at the destination.
+-- What becomes of bytes that arrive: which messages are the unit's, what a broadcast does, and when there is silence. Carried by the definitions,
+-- opened at the link and at the destination.
 use Prim.Native.Nat.{ℕ}
 use mathlib.Core.Bool.{false}
 use mathlib.Core.List.{List, []}

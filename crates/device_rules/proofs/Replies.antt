@@ -36,6 +36,15 @@ module _ (d : Device) (m : Message) where
   abbrev answer : Kind → ℕ → ℕ → Message
   answer = answerOf (d .link) (d .own) m
 
+  -- The unit's own telecommands and telemetry requests are answered, each by its rule.
+  pub command-replied : (store : ℕ) (p : List ℕ) → m .kind ≡ Telecommand → kindReply (m .kind) d store m p ≡ telecommandReply d store m p
+  unfolding kindReply
+  command-replied store p k = rw k
+
+  pub request-replied : (store : ℕ) (p : List ℕ) → m .kind ≡ TelemetryRequest → kindReply (m .kind) d store m p ≡ telemetryReply d m
+  unfolding kindReply
+  request-replied store p k = rw k
+
   -- A command without a fault is carried out and acked.
   pub command-acked : (store : ℕ) (p : List ℕ) → commandFault d store (m .id) p ≡ None
       → telecommandReply d store m p ≡ about (answers (commandDone d (m .id) p)) (linkWrite (d .link) (answer TelecommandAck 0 0) [])

@@ -30,8 +30,8 @@ pub data Reply : Type 0 where
   answers : Device → Reply
   silent : Device → Reply
 
--- "On RS485 a message for the unit's own address [..] is taken", and one for 0 is a broadcast (document 02, ticket 2); "others are passed
--- over". "On CAN and CSP every message is the unit's", and on UART, which has no addresses.
+-- "On RS485 a message for the unit's own address [..] is taken"; 0 "is reserved for broadcast messages" (document 001, 2.4; document 02, ticket 2,
+-- says what becomes of one); "others are passed over". "On CAN and CSP every message is the unit's", and on UART, which has no addresses.
 unfoldable pub addressing : Link → ℕ → Message → Addressing
 addressing Uart own m = Own
 addressing Rs485 own m = cond (eqb (m .destination) 0) Broadcast (cond (eqb (m .destination) own) Own Other)
@@ -90,8 +90,8 @@ kindReply Kind·of.TelemetryResponse d store m p = silence d
 kindReply Kind·of.TelemetryNack d store m p = silence d
 kindReply Kind·of.Event d store m p = silence d
 
--- "A broadcast telecommand is carried out [..], and a broadcast telemetry request is passed over" (document 02, ticket 2), as are
--- the kinds that get no answer anyway.
+-- "A broadcast telecommand is carried out [..], and a broadcast telemetry request is passed over" (document 02, ticket 2), as are the kinds that get
+-- no answer anyway. A telecommand with a fault changes nothing, as ever.
 unfoldable pub afterBroadcast : Device → ℕ → Message → List ℕ → Device
 afterBroadcast d store m p = cond (isTelecommand (m .kind)) (afterCommand d (m .id) p (commandFault d store (m .id) p)) d
 

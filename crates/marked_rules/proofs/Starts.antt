@@ -48,19 +48,19 @@ accepted l destination a out reply forUnit h =
         started = h .5;
         addressed = λ e. refl;
       };
-      addressed = h .1;
+      setupAddressed = h .1;
       lent = refl;
       replied = refl;
     }
 
-own-unit : Own ≡ Other → ⊥
-own-unit e = let z : _≡_ {A = ℕ} 0 1 = cc in omega arith
+own-not-other : Own ≡ Other → ⊥
+own-not-other e = let z : _≡_ {A = ℕ} 0 1 = cc in omega arith
 
-broadcast-unit : Broadcast ≡ Other → ⊥
-broadcast-unit e = let z : _≡_ {A = ℕ} 0 1 = cc in omega arith
+broadcast-not-other : Broadcast ≡ Other → ⊥
+broadcast-not-other e = let z : _≡_ {A = ℕ} 0 1 = cc in omega arith
 
 pub every-link-starts : EveryLinkStarts
-every-link-starts l = accepted l 31 Own output answers own-unit (setup-accepted l)
+every-link-starts l = accepted l 31 Own output answers own-not-other (setup-accepted l)
 
 pub broadcast-starts : BroadcastStarts
-broadcast-starts = accepted Rs485 0 Broadcast [] silent broadcast-unit broadcast-accepted
+broadcast-starts = accepted Rs485 0 Broadcast [] silent broadcast-not-other broadcast-accepted

@@ -13,17 +13,17 @@ use Rattle.round_rules.specs.Schedule.{output}
 use Rattle.upload_rules.specs.Demand.{Start}
 use Rattle.marked_rules.specs.Cases.{file, opened}
 
--- The setup of P11 and P12 on a link, addressed so and lent this output: answered or not, the reply has the unit that it opened.
-pub record StartAfter (l : Link) (a : Addressing) (out : List ℕ) (reply : Device → Reply) : Type 0 where
+-- The world of P11 and P12 on a link, after a setup that was addressed so, lent this output, and replied to so.
+pub record StartAfter (l : Link) (a : Addressing) (out : List ℕ) (replies : Device → Reply) : Type 0 where
   pub start : Start file (opened l)
-  pub addressed : addressing (start .unit .link) (start .unit .own) (start .message) ≡ a
+  pub setupAddressed : addressing (start .unit .link) (start .unit .own) (start .message) ≡ a
   pub lent : start .output ≡ out
-  pub replied : start .reply ≡ reply (opened l .device)
+  pub replied : start .reply ≡ replies (opened l .device)
 
 -- For the unit, on every link, it is answered.
 abbrev pub EveryLinkStarts : Type 0
 EveryLinkStarts = (l : Link) → StartAfter l Own output answers
 
--- As a broadcast it "gets no answer" (document 02, ticket 2), and needs no output.
+-- As a broadcast it "gets no answer" (document 02, ticket 2), needs no output, and leaves the same unit.
 abbrev pub BroadcastStarts : Type 0
 BroadcastStarts = StartAfter Rs485 Broadcast [] silent

@@ -46,7 +46,8 @@ pub record Start (file : List ℕ) (w : World Sender) : Type 0 where
   pub setup : message .id ≡ 20
   pub size : fromBytes payload ≡ length file
   pub forUnit : addressing (unit .link) (unit .own) message ≡ Other → ⊥
-  -- no fault kept the unit from carrying it out; the call was not refused, whether it was answered or not, and w has the unit that it left;
+  -- no fault kept the unit from carrying it out; the call was not refused (the reply says whether it was answered, and the answer has the bytes, none
+  -- in silence), and w has the unit that it left;
   pub noFault : commandFault unit (length (w .store)) (message .id) payload ≡ None
   pub reply : Reply
   pub answer : List ℕ
