@@ -10,13 +10,13 @@ use borrow.Author.Tests.{leb-true, le-leb}
 use lib.Dec.{leb}
 use lib.ListN.{length, take, drop, replicate, length-append, length-drop, take-append-drop}
 use lib.Seq.{length-take-le, take-append-seam, drop-append-seam, drop-drop}
-use Rattle.message_rules.specs.Answer.{refused, given, require, after, within, outputAfter, written}
+use Rattle.message_rules.specs.Answer.{refused, given, require, after, within, outputAfter, written, valueResult}
 use Rattle.message_rules.specs.declared.Refusal.the-variants.{OutputTooShort}
 use Rattle.message_rules.specs.declared.Verdict.{Verdict}
 use Rattle.message_rules.specs.declared.Verdict.the-variants.{Passed, Refused}
 use Rattle.message_rules.proofs.Answers.{long-enough}
 use Rattle.message_rules.proofs.Checks.{both-true}
-use Rattle.device_rules.specs.Device.{bufferedFrame, withTransfer, unitResult}
+use Rattle.device_rules.specs.Device.{bufferedFrame, withTransfer}
 use Rattle.device_rules.specs.Work.{frameStored, hasRoom, work, withoutBytes, afterWork, storeAfter}
 use Rattle.device_rules.specs.declared.Device.{Device}
 
@@ -48,7 +48,7 @@ frame-stored d s pending long fits =
 
 abbrev Gives : Device → List ℕ → Verdict → Device → List ℕ → Type 0
 Gives d s v d′ s′ =
-    (unitResult v d′ ≡ withoutBytes (work d (length s))) × ((d′ ≡ afterWork d (work d (length s))) × (s′ ≡ storeAfter d (work d (length s)) s))
+    (valueResult v d′ ≡ withoutBytes (work d (length s))) × ((d′ ≡ afterWork d (work d (length s))) × (s′ ≡ storeAfter d (work d (length s)) s))
 
 -- The step by its two tests.
 module _ (d : Device) (n : ℕ) where
@@ -66,11 +66,11 @@ module _ (d : Device) (n : ℕ) where
 
 module _ (d : Device) (s : List ℕ) where
   pub idle-gives : d .transfer .pending ≡ false → Gives d s Passed d s
-  unfolding unitResult withoutBytes afterWork storeAfter
+  unfolding valueResult withoutBytes afterWork storeAfter
   idle-gives h = rw (rests d (length s) h, add-zero) (refl, (refl, sym (take-append-drop (d .transfer .stored) s)))
 
   pub short-gives : d .transfer .pending ≡ true → hasRoom (d .transfer) (length s) ≡ false → Gives d s (Refused OutputTooShort) d s
-  unfolding unitResult withoutBytes afterWork storeAfter
+  unfolding valueResult withoutBytes afterWork storeAfter
   short-gives h k = rw (short d (length s) h k) (refl, (refl, refl))
 
   pub room : hasRoom (d .transfer) (length s) ≡ true → (d .transfer .size ≤ length s) × (d .transfer .stored + length (bufferedFrame (d .transfer)) ≤ d .transfer .size)
@@ -84,7 +84,7 @@ module _ (d : Device) (s : List ℕ) where
   pub stored-gives : (part : List ℕ) → d .transfer .pending ≡ true → hasRoom (d .transfer) (length s) ≡ true
       → part ≡ outputAfter (within (drop (d .transfer .stored) s) (written (bufferedFrame (d .transfer)))) (drop (d .transfer .stored) s)
       → Gives d s Passed (withTransfer d (frameStored (d .transfer))) (take (d .transfer .stored) s ++ part)
-  unfolding unitResult withoutBytes afterWork storeAfter outputAfter
+  unfolding valueResult withoutBytes afterWork storeAfter outputAfter
   stored-gives part h k left =
       let t = d .transfer in
       let fits : length (bufferedFrame t) ≤ length (drop (t .stored) s) = rw length-drop (omega (arith, room k)) in

@@ -4,9 +4,7 @@ use mathlib.Core.Bool.{Bool, true, false, cond}
 use mathlib.Core.List.{List}
 use lib.Dec.{eqb}
 use lib.ListN.{take, replicate}
-use Rattle.message_rules.specs.Answer.{Answer, refused, given, refusalNumber}
-use Rattle.message_rules.specs.declared.Verdict.{Verdict}
-use Rattle.message_rules.specs.declared.Verdict.the-variants as Verdict·of
+use Rattle.message_rules.specs.Answer.{Answer, refused, given}
 use Rattle.link_rules.specs.declared.Link.{Link}
 use Rattle.device_rules.specs.declared.Device.{Device}
 use Rattle.device_rules.specs.declared.Transfer.{Transfer}
@@ -61,8 +59,3 @@ newDevice l own = record { link = l; own = own; transfer = noTransfer }
 -- "Making a unit with own address 0 is refused with 7 on every link."
 unfoldable pub make : Link → ℕ → Answer Device Unit
 make l own = cond (eqb own 0) (refused 7) (given (newDevice l own) tt)
-
--- What the code's answer says, of making a unit and of the work step (document 01, "Forms we want to see": "this paper's number and values for each case").
-unfoldable pub unitResult : Verdict → Device → Answer Device Unit
-unitResult Verdict·of.Passed d = given d tt
-unitResult (Verdict·of.Refused r) d = refused (refusalNumber r)

@@ -1,7 +1,8 @@
 // A unit at first, without a transfer, and the frame that a transfer's buffer holds.
 ghost use mathlib.Core.Path.{_≡_};
 ghost use lib.ListN.{length};
-ghost use Rattle.device_rules.specs.Device.{bufferedFrame, noTransfer, newDevice, make, unitResult};
+ghost use Rattle.message_rules.specs.Answer.{valueResult};
+ghost use Rattle.device_rules.specs.Device.{bufferedFrame, noTransfer, newDevice, make};
 use device_rules::Device;
 use device_rules::Phase;
 use device_rules::Transfer;
@@ -38,7 +39,7 @@ pub fn no_transfer() -> Transfer
 
 // A unit at first, with its own address. Where that is 0 it is refused, and the unit beside the refusal is of no use.
 pub fn make(link: Link, own: u8) -> UnitAnswer
-    ensures { λ r. ⌜ unitResult (r .verdict) (r .device) ≡ make link own ⌝ }
+    ensures { λ r. ⌜ valueResult (r .verdict) (r .device) ≡ make link own ⌝ }
     ensures { λ r. ⌜ r .device ≡ newDevice link own ⌝ }
 {
     let transfer = no_transfer();

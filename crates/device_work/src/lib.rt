@@ -4,7 +4,8 @@ ghost use mathlib.Core.Bool.{cond};
 ghost use mathlib.Core.Path.{_≡_};
 ghost use lib.Dec.{eqb};
 ghost use lib.ListN.{length};
-ghost use Rattle.device_rules.specs.Device.{bufferedFrame, unitResult};
+ghost use Rattle.message_rules.specs.Answer.{valueResult};
+ghost use Rattle.device_rules.specs.Device.{bufferedFrame};
 ghost use Rattle.device_rules.specs.Work.{frameStored, hasRoom, work, withoutBytes, afterWork, storeAfter};
 use device_rules::Device;
 use device_rules::Phase;
@@ -15,7 +16,7 @@ use message_rules::Verdict;
 
 // Stores a pending frame; with nothing pending it does nothing.
 pub fn work(device: Device, store: &mut [u8]) -> UnitAnswer
-    ensures { λ r. ⌜ unitResult (r .verdict) (r .device) ≡ withoutBytes (work device (length (now (store .entry)))) ⌝ }
+    ensures { λ r. ⌜ valueResult (r .verdict) (r .device) ≡ withoutBytes (work device (length (now (store .entry)))) ⌝ }
     ensures { λ r. ⌜ r .device ≡ afterWork device (work device (length (now (store .entry)))) ⌝ }
     ensures { λ _. ⌜ now (store .exit) ≡ storeAfter device (work device (length (now (store .entry)))) (now (store .entry)) ⌝ }
 {

@@ -6,7 +6,7 @@ use native.Mathlib.Omega.{arith}
 use native.Mathlib.Numerals.{add-one}
 use lib.ListN.{length, getD, drop}
 use lib.Seq.{drop-cons}
-use Rattle.little_endian_rules.proofs.Laws.{Bytes}
+use Rattle.little_endian_rules.specs.LittleEndian.{Bytes}
 use Rattle.file_rules.specs.Checksum.{sum, checksum}
 
 pub checksum-below : (s : List ℕ) → checksum s < 65536

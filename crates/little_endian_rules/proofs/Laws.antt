@@ -5,7 +5,7 @@ use mathlib.Core.Path.{_≡_, refl, ap}
 use native.Mathlib.Nat.{pow-suc}
 use native.Mathlib.Omega.{arith}
 use lib.ListN.{length}
-use Rattle.little_endian_rules.specs.LittleEndian.{fromBytes, toBytes}
+use Rattle.little_endian_rules.specs.LittleEndian.{Bytes, fromBytes, toBytes}
 
 pub to-length : (w n : ℕ) → length (toBytes w n) ≡ w
 unfolding toBytes
@@ -18,11 +18,6 @@ from-to zero n h = omega arith
 from-to (suc w) n h =
     let less : n / 256 < 256 ^ w = omega (arith, pow-suc 256 w, h) in
     rw (from-to w (n / 256) less) (omega arith)
-
--- Every number of a list is a byte.
-abbrev pub Bytes : List ℕ → Type 0
-Bytes [] = Unit
-Bytes (b ∷ bs) = (b < 256) × Bytes bs
 
 pub to-bytes : (w n : ℕ) → Bytes (toBytes w n)
 unfolding toBytes

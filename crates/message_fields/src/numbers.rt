@@ -1,11 +1,11 @@
-// Document 01's number of a refusal, and the number of an error byte. The rules are definitions of `message_rules`: `Answer` and `Data`.
+// The number of a refusal, and the number of an error byte. The rules are definitions of `message_rules`: `Answer` and `Data`.
 ghost use mathlib.Core.Path.{_≡_};
 ghost use Rattle.message_rules.specs.Answer.{refusalNumber};
 ghost use Rattle.message_rules.specs.Data.{errorNumber};
 use message_rules::ErrorByte;
 use message_rules::Refusal;
 
-// Document 01's number.
+// The number that documents 01 and 02 give it.
 pub fn refusal_number(refusal: Refusal) -> u8
     ensures { λ r. ⌜ r ≡ refusalNumber refusal ⌝ }
 {
@@ -21,6 +21,9 @@ pub fn refusal_number(refusal: Refusal) -> u8
         Refusal::NotWritable => 9,
         Refusal::SeriesMismatch => 10,
         Refusal::IllegalFileSize => 11,
+        Refusal::PartialRecord => 12,
+        Refusal::IllegalMilliseconds => 13,
+        Refusal::LogTooLong => 14,
     }
 }
 

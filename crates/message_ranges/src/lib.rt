@@ -10,7 +10,8 @@ use message_rules::Kind;
 use message_rules::Range;
 use table::ranges_of;
 
-fn contains(range: Range, n: usize) -> bool
+// Whether a number is in a range, both ends included.
+pub fn contains(range: Range, n: usize) -> bool
     ensures { λ r. ⌜ r ≡ inside range n ⌝ }
 {
     range.0 <= n && n <= range.1

@@ -7,7 +7,7 @@ use lib.Dec.{leb}
 use lib.ListN.{length, drop}
 use Rattle.message_rules.specs.declared.Message.{Message}
 use Rattle.message_rules.specs.declared.Refusal.{Refusal}
-use Rattle.message_rules.specs.declared.Refusal.the-variants.{Truncated, UnknownStart, BrokenEscape, TrailingBytes, IdOutOfRange, WrongLength, IllegalValue, OutputTooShort, NotWritable, SeriesMismatch, IllegalFileSize}
+use Rattle.message_rules.specs.declared.Refusal.the-variants.{Truncated, UnknownStart, BrokenEscape, TrailingBytes, IdOutOfRange, WrongLength, IllegalValue, OutputTooShort, NotWritable, SeriesMismatch, IllegalFileSize, PartialRecord, IllegalMilliseconds, LogTooLong}
 use Rattle.message_rules.specs.declared.Verdict.{Verdict}
 use Rattle.message_rules.specs.declared.Verdict.the-variants as Verdict·of
 use Rattle.message_rules.specs.declared.ReadAnswer.{ReadAnswer}
@@ -15,7 +15,7 @@ use Rattle.message_rules.specs.declared.ReadAnswer.the-variants as ReadA
 use Rattle.message_rules.specs.declared.WriteAnswer.{WriteAnswer}
 use Rattle.message_rules.specs.declared.WriteAnswer.the-variants as WriteAnswer·of
 
--- "Refusal numbers": the table's number of each refusal.
+-- "Refusal numbers": the table's number of each refusal; from 12 on, those of document 02's requests.
 abbrev pub refusalNumber : Refusal → ℕ
 refusalNumber Truncated = 1
 refusalNumber UnknownStart = 2
@@ -28,6 +28,9 @@ refusalNumber OutputTooShort = 8
 refusalNumber NotWritable = 9
 refusalNumber SeriesMismatch = 10
 refusalNumber IllegalFileSize = 11
+refusalNumber PartialRecord = 12
+refusalNumber IllegalMilliseconds = 13
+refusalNumber LogTooLong = 14
 
 -- What the checks of an input come to: the first that fails gives its number.
 pub data Check : Type 0 where
@@ -66,6 +69,11 @@ module _ {A : Type 0} where
   outputAfter (refused n) out = out
   outputAfter (given a b) out = b ++ drop (length b) out
 
+-- A value afterwards: as it was on a refusal; else the value given.
+unfoldable pub valueAfter : {A : Type 0} → A → Answer A Unit → A
+valueAfter before (refused n) = before
+valueAfter before (given a u) = a
+
 -- The same answer about something else: its refusal, or its bytes, stay.
 unfoldable pub about : {A A′ B : Type 0} → A′ → Answer A B → Answer A′ B
 about a (refused n) = refused n
@@ -79,6 +87,11 @@ written b = given tt b
 unfoldable pub verdictResult : Verdict → Check
 verdictResult Verdict·of.Passed = passed
 verdictResult (Verdict·of.Refused r) = failed (refusalNumber r)
+
+-- A verdict with a value beside it, which counts where it passed.
+unfoldable pub valueResult : {A : Type 0} → Verdict → A → Answer A Unit
+valueResult Verdict·of.Passed a = given a tt
+valueResult (Verdict·of.Refused r) a = refused (refusalNumber r)
 
 unfoldable pub readResult : ReadAnswer → Answer Message ℕ
 readResult (ReadAnswer·of.Refused r) = refused (refusalNumber r)

@@ -41,7 +41,7 @@ pub struct Message {
     pub index: u8,
 }
 
-// Why an input was refused, in the order of document 01's refusal numbers.
+// Why an input was refused, in the order of the refusal numbers of documents 01 and 02.
 pub enum Refusal {
     // 1: the input ends before the message does.
     Truncated,
@@ -65,6 +65,12 @@ pub enum Refusal {
     SeriesMismatch,
     // 11: a file of 0 or more than 16,776,960 bytes.
     IllegalFileSize,
+    // 12: the length of an event log is not a multiple of 24, or that of one record not 24.
+    PartialRecord,
+    // 13: an event's milliseconds are above 999.
+    IllegalMilliseconds,
+    // 14: an event log of more than 65,520 bytes.
+    LogTooLong,
 }
 
 // What a row of checks comes to: the first that fails refuses.

@@ -1,4 +1,5 @@
-// What a script keeps: a unit with its store, a sender and a file. Store and file are the first so many bytes of their arrays.
+// What a script keeps: a unit with its store, a sender, a file and a log. Store and file are the first so many bytes of their arrays. Of the log
+// only its length is here: its bytes lie in a space of their own, since what is kept is copied at every call.
 use device::Device;
 use link_rules::Link;
 use round_rules::State;
@@ -16,9 +17,10 @@ pub struct Kept {
     pub sender: Sender,
     pub file: [u8; 4096],
     pub file_length: usize,
+    pub log_length: usize,
 }
 
-// At first there is no unit and no sender, and the file is empty.
+// At first there is no unit and no sender, and file and log are empty.
 pub(crate) fn none() -> Kept {
     let made = device::make(Link::Uart, 1);
     let unit = made.device;
@@ -42,6 +44,7 @@ pub(crate) fn none() -> Kept {
         sender,
         file: [0; 4096],
         file_length: 0,
+        log_length: 0,
     }
 }
 
@@ -63,5 +66,11 @@ pub(crate) fn with_sender(kept: Kept, sender: Sender) -> Kept {
     let mut next = kept;
     next.started = true;
     next.sender = sender;
+    next
+}
+
+pub(crate) fn with_log(kept: Kept, length: usize) -> Kept {
+    let mut next = kept;
+    next.log_length = length;
     next
 }

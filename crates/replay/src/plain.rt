@@ -43,7 +43,7 @@ fn write(call: Call, bytes: &[u8]) {
     print::last(out);
 }
 
-fn print_written(answer: WriteAnswer) {
+pub(crate) fn print_written(answer: WriteAnswer) {
     match answer {
         WriteAnswer::Refused(refusal) => print::refused(refusal),
         WriteAnswer::Length(length) => print::decimal(length),

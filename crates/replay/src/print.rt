@@ -4,6 +4,8 @@ use crate::word::KINDS;
 use crate::word::NAMES;
 use device::Device;
 use device::Phase;
+use event_rules::EventRecord;
+use event_rules::EventReport;
 use libc::STDOUT_FILENO;
 use message_rules::ErrorByte;
 use message_rules::Kind;
@@ -72,6 +74,10 @@ pub(crate) fn ok_line() {
 
 pub(crate) fn none_line() {
     text(b"none\n");
+}
+
+pub(crate) fn bad_line() {
+    text(b"bad line\n");
 }
 
 pub(crate) fn refused_line(refusal: Refusal) {
@@ -170,5 +176,40 @@ fn place(kind: Kind) -> usize {
         Kind::TelemetryResponse => KINDS + 4,
         Kind::TelemetryNack => KINDS + 5,
         Kind::Event => KINDS + 6,
+    }
+}
+
+// `COUNTER UPTIME UNIX MILLISECONDS IDENTIFIER DATA`
+pub(crate) fn event(event: EventRecord) {
+    decimal(event.counter as usize);
+    number(event.uptime as usize);
+    number(event.seconds as usize);
+    number(event.milliseconds as usize);
+    number(event.identifier as usize);
+    let data = event.data;
+    output(&data);
+}
+
+// Four counts of classes, 32 of sources, and that of the records that are earlier.
+pub(crate) fn report(report: EventReport) {
+    let classes = report.classes;
+    let sources = report.sources;
+    decimal(classes[0] as usize);
+    count(classes[1]);
+    count(classes[2]);
+    count(classes[3]);
+    source_counts(sources);
+    count(report.earlier);
+}
+
+fn count(n: u32) {
+    number(n as usize);
+}
+
+fn source_counts(sources: [u32; 32]) {
+    let mut i = 0;
+    while i < 32 {
+        count(sources[i]);
+        i += 1;
     }
 }

@@ -1,6 +1,7 @@
 // Runs a script from an open file, line by line.
 use crate::call;
 use crate::call::Call;
+use crate::events;
 use crate::input;
 use crate::input::Line;
 use crate::keep;
@@ -15,10 +16,11 @@ use crate::unit;
 // Makes the calls of a script, one to a line, and writes one line for each to standard output.
 pub(crate) fn run(script: i32) {
     let mut buffer = [0u8; 20480];
-    run_lines(script, &mut buffer);
+    let mut log = [0u8; events::LOG_SPACE];
+    run_lines(script, &mut buffer, &mut log);
 }
 
-fn run_lines(script: i32, buffer: &mut [u8]) {
+fn run_lines(script: i32, buffer: &mut [u8], log: &mut [u8]) {
     let mut kept = keep::none();
     let mut next = Line {
         length: 0,
@@ -31,21 +33,21 @@ fn run_lines(script: i32, buffer: &mut [u8]) {
     while turns < 0x7FFF_FFFF_FFFF_FFFF {
         turns += 1;
         next = input::next_line(script, buffer, next);
-        kept = run_line(input::front(buffer, next.length), next.beyond, kept);
+        kept = run_line(input::front(buffer, next.length), next.beyond, kept, log);
         if next.last {
             return;
         }
     }
 }
 
-fn run_line(line: &[u8], beyond: bool, kept: Kept) -> Kept {
+fn run_line(line: &[u8], beyond: bool, kept: Kept, log: &mut [u8]) -> Kept {
     let mut bytes = [0u8; 8192];
     let call = line::read(line, beyond, &mut bytes);
-    make(call, &bytes, kept)
+    make(call, &bytes, kept, log)
 }
 
-// By the order of the names: calls that keep nothing, those of a unit, those of a sender, a round, and lines that are no call.
-fn make(call: Call, bytes: &[u8], kept: Kept) -> Kept {
+// By the order of the names: calls that keep nothing, those of a unit, those of a sender, a round, those of a log, and lines that are no call.
+fn make(call: Call, bytes: &[u8], kept: Kept, log: &mut [u8]) -> Kept {
     let name = call[0];
     if name < call::UNIT {
         plain::make(call, bytes);
@@ -60,8 +62,11 @@ fn make(call: Call, bytes: &[u8], kept: Kept) -> Kept {
     if name == call::ROUND {
         return round::make(call, kept);
     }
+    if name < call::BAD {
+        return events::make(call, bytes, kept, log);
+    }
     if name == call::BAD {
-        print::text(b"bad line\n");
+        print::bad_line();
     }
     kept
 }

@@ -7,11 +7,10 @@ use native.Mathlib.Omega.{arith}
 use lib.Dec.{leb}
 use lib.ListN.{length, take}
 use Rattle.message_rules.proofs.Answers.{counted-refused, counted-given, counted-empty}
-use Rattle.message_rules.specs.Answer.{Answer, Check, refused, given, refusalNumber, passed, failed, require, after, within, counted, outputAfter, about, verdictResult}
+use Rattle.message_rules.specs.Answer.{Answer, Check, refused, given, refusalNumber, passed, failed, require, after, within, counted, outputAfter, about, verdictResult, valueResult}
 use Rattle.message_rules.specs.declared.Refusal.{Refusal}
 use Rattle.message_rules.specs.declared.Verdict.{Verdict}
 use Rattle.message_rules.specs.declared.Verdict.the-variants as Verdict·of
-use Rattle.device_rules.specs.Device.{unitResult}
 use Rattle.device_rules.specs.Answers.{receiveResult}
 use Rattle.device_rules.specs.Receive.{Reply, answers, silent, receive}
 use Rattle.device_rules.specs.Work.{withoutBytes}
@@ -113,8 +112,8 @@ module _ {A B : Type 0} (x : Answer A B) (v : Verdict) (result : verdictResult v
       by (given a b) q = absurd (let z : _≡_ {A = ℕ} 0 1 = cc (rw (e, q) at result) in omega arith)
 
 -- The verdict of a work step.
-pub work-verdict : (x : Answer Device (List ℕ)) (v : Verdict) (next : Device) → unitResult v next ≡ withoutBytes x → verdictResult v ≡ answerCheck x
-unfolding unitResult withoutBytes verdictResult answerCheck
+pub work-verdict : (x : Answer Device (List ℕ)) (v : Verdict) (next : Device) → valueResult v next ≡ withoutBytes x → verdictResult v ≡ answerCheck x
+unfolding valueResult withoutBytes verdictResult answerCheck
 work-verdict (refused n) Verdict·of.Passed next e = absurd (let z : _≡_ {A = ℕ} 0 1 = cc in omega arith)
 work-verdict (refused n) (Verdict·of.Refused f) next e = cc
 work-verdict (given d b) Verdict·of.Passed next e = refl

@@ -1,4 +1,4 @@
--- Carried by the count of turns, which only bounds the loop; the buffer keeps its length.
+-- Carried by the count of turns, which only bounds the loop; buffer and log keep their lengths.
 use Prim.Native.Nat.{_-_}
 use mathlib.Core.Path.{_≡_}
 use lib.ListN.{length}
@@ -7,10 +7,10 @@ use Rattle.replay.proofs.runner.run_lines.Statement.{statement}
 use Rattle.replay.proofs.runner.run_lines.Tie as tie
 
 abbrev Inv-loop : tie.InvT-loop
-Inv-loop script buffer₀ kept₀ next₀ turns₀ buffer kept next turns = length buffer ≡ length buffer₀
+Inv-loop script buffer₀ log₀ kept₀ next₀ turns₀ buffer log kept next turns = (length buffer ≡ length buffer₀) × (length log ≡ length log₀)
 
 abbrev μ-loop : tie.MeasureT-loop
-μ-loop script buffer₀ kept₀ next₀ turns₀ buffer kept next turns = 0x7FFF_FFFF_FFFF_FFFF - turns
+μ-loop script buffer₀ log₀ kept₀ next₀ turns₀ buffer log kept next turns = 0x7FFF_FFFF_FFFF_FFFF - turns
 
 none-requires : tie.Need-none-requires Inv-loop μ-loop
 none-requires c κs = search needs
@@ -33,6 +33,9 @@ run-line-requires c κs = search needs
 same-length : tie.Need-same-length Inv-loop μ-loop
 same-length c = search needs
 
+same-length-2 : tie.Need-same-length-2 Inv-loop μ-loop
+same-length-2 c = search needs
+
 returns : tie.Need-returns Inv-loop μ-loop
 returns c = search needs
 
@@ -42,8 +45,11 @@ loop-less c = search needs
 loop-again : tie.Need-loop-again Inv-loop μ-loop
 loop-again c = search needs
 
-same-length-2 : tie.Need-same-length-2 Inv-loop μ-loop
-same-length-2 c = search needs
+same-length-3 : tie.Need-same-length-3 Inv-loop μ-loop
+same-length-3 c = search needs
+
+same-length-4 : tie.Need-same-length-4 Inv-loop μ-loop
+same-length-4 c = search needs
 
 returns-2 : tie.Need-returns-2 Inv-loop μ-loop
 returns-2 c = search needs
@@ -61,8 +67,10 @@ run-lines-spec =
     front-requires
     run-line-requires
     same-length
+    same-length-2
     returns
     loop-less
     loop-again
-    same-length-2
+    same-length-3
+    same-length-4
     returns-2)
