@@ -9,14 +9,14 @@ use lib.Dec.{ltb, eqb}
 use lib.ListN.{length, drop, getD, set, replicate, length-set, length-replicate, getD-replicate}
 use lib.Seq.{getD-set-same, getD-set-other, ext-getD}
 use Rattle.message_rules.proofs.Checks.{both-true}
-use Rattle.event_rules.specs.Records.{recordOf, recordIn, inSecond, bits, eventClass, eventSource}
+use Rattle.event_rules.specs.Records.{recordOf, recordIn, inSecond, eventClass, eventSource}
 use Rattle.event_rules.specs.Logs.{Entry, entriesOf, entries, kept, every}
 use Rattle.event_rules.specs.Reports.{ofClass, ofSource, counts, classCounts, sourceCounts, isEarlier, tally, earlierCount, reportOf}
 use Rattle.event_rules.specs.declared.EventRecord.{EventRecord}
-use Rattle.event_rules.proofs.Entries.{entries-length, kept-part, part-length}
+use Rattle.event_rules.proofs.Entries.{entries-count, kept-part, part-length}
 use Rattle.event_rules.proofs.Turns.{Left, entry, turn, turn-record, turn-left, first-left, none-left, every-turn}
-use Rattle.event_rules.proofs.Counts.{kept-front}
-use Rattle.event_rules.proofs.Choices.{class-count, source-count}
+use Rattle.event_rules.proofs.Choices.{class-below, source-below}
+use Rattle.event_rules.proofs.Counts.{class-count, source-count, kept-front}
 
 -- A row of counts, one for each value below a width: each with that of the entries left is that of all.
 pub record Row (test : ℕ → EventRecord → Bool) (width : ℕ) (row : List ℕ) (rest all : List Entry) : Type 0 where
@@ -111,24 +111,11 @@ earlier-most before (e ∷ l) = by (ltb (time (recordOf e)) before) (earlier-mos
     by true h = omega arith
     by false h = omega arith
 
--- One or nothing is 1 less something, so that it is at most 1.
-pub at-most-one : (t : Bool) → cond {A = ℕ} t 1 0 ≡ 1 - cond t 0 1
-at-most-one true = refl
-at-most-one false = refl
-
 -- One more where a test holds, as the code and as the rule add it.
 added : (t : Bool) (m n : ℕ) → m + cond t 1 0 + n ≡ m + tally t n
 unfolding tally
 added true m n = omega arith
 added false m n = omega arith
-
-pub class-below : (e : EventRecord) → eventClass e < 4
-unfolding eventClass bits
-class-below e = omega arith
-
-pub source-below : (e : EventRecord) → eventSource e < 32
-unfolding eventSource bits
-source-below e = omega arith
 
 -- What the loop has counted, with so many entries left from an offset on.
 pub record Counting (log classes sources : List ℕ) (earlier before left at : ℕ) : Type 0 where
@@ -153,8 +140,7 @@ module _ {log classes sources : List ℕ} {earlier before left at : ℕ} (c : Co
   -- No count is above that of the entries.
   module _ (short : length log ≤ 65520) where
     few : length (entries log) ≤ 2730
-    unfolding entries
-    few = rw (entries-length (length log / 24) log) (omega arith)
+    few = omega (arith, entries-count log)
 
     pub class-most : (i : ℕ) → i < 4 → getD classes i 0 ≤ 2730
     class-most i h = omega (arith, few, row-most ofClass 4 (c .class-row) i h)
@@ -184,7 +170,7 @@ module _ {log classes sources : List ℕ} {earlier before left at : ℕ} (c : Co
         all-earlier = omega (arith, rw (none-left (drop at log) left none) at (c .earlier-sum), earlier-first (entries log) all-legal)
 
   -- The entry of a turn is refused, or counted.
-  module _ (some : 0 < left) (e : EventRecord) (is : e ≡ recordIn (entry log at left)) where
+  module _ (some : 0 < left) (e : EventRecord) (is : e ≡ recordIn (entry log at)) where
     pub late : inSecond e ≡ false → every inSecond (entries log) ≡ false
     late h = sym (c .legal) ∙ rw (every-turn log _ _ (c .rest) some _ is inSecond, h)
 
@@ -197,7 +183,7 @@ module _ {log classes sources : List ℕ} {earlier before left at : ℕ} (c : Co
         record {
           rest = turn-left log at left (c .rest) some;
           legal = sym (rw h at (every-turn log _ _ (c .rest) some _ is inSecond)) ∙ c .legal;
-          class-row = rw read (row-turn ofClass 4 eventClass (λ i r. refl) (rw front at (c .class-row)) (class-below (recordOf (entry log at left))));
-          source-row = rw read (row-turn ofSource 32 eventSource (λ i r. refl) (rw front at (c .source-row)) (source-below (recordOf (entry log at left))));
-          earlier-sum = rw read (added (ltb (time (recordOf (entry log at left))) before) _ _ ∙ rw front at (c .earlier-sum));
+          class-row = rw read (row-turn ofClass 4 eventClass (λ i r. refl) (rw front at (c .class-row)) (class-below (recordOf (entry log at))));
+          source-row = rw read (row-turn ofSource 32 eventSource (λ i r. refl) (rw front at (c .source-row)) (source-below (recordOf (entry log at))));
+          earlier-sum = rw read (added (ltb (time (recordOf (entry log at))) before) _ _ ∙ rw front at (c .earlier-sum));
         }

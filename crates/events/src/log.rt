@@ -15,9 +15,7 @@ const INPUT: usize = LONGEST_LOG + 1;
 pub(crate) fn print_report(input: i32) {
     let mut bytes = input_space();
     let n = io::read_full(input, &mut bytes);
-    // A read that failed ends early, as the end of a log does: another read tells them apart.
-    let mut more = [0u8; 1];
-    if libc::read(input, &mut more) < 0 {
+    if n < INPUT && failed(input) {
         print::unread();
         return;
     }
@@ -28,6 +26,12 @@ pub(crate) fn print_report(input: i32) {
         Verdict::Refused(refusal) => print::refused(refusal),
         Verdict::Passed => print::report(n / RECORD_SIZE, counts),
     }
+}
+
+// A read that failed ends early, as the end of a log does: another read tells them apart.
+fn failed(input: i32) -> bool {
+    let mut more = [0u8; 1];
+    libc::read(input, &mut more) < 0
 }
 
 fn input_space() -> [u8; INPUT]

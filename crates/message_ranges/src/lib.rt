@@ -1,5 +1,5 @@
-// What each kind allows: whether an ID, a payload's length or an error byte is in the kind's range (`table` has the ranges). The rules are
-// definitions of `message_rules`: `Checks` and `Kinds`.
+// What each kind allows: whether an ID, a payload's length or an error byte is in the kind's range (`table` has the ranges), and whether a
+// number is in a range. The rules are definitions of `message_rules`: `Checks` and `Kinds`.
 mod table;
 
 ghost use mathlib.Core.Path.{_≡_};

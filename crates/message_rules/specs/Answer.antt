@@ -69,10 +69,10 @@ module _ {A : Type 0} where
   outputAfter (refused n) out = out
   outputAfter (given a b) out = b ++ drop (length b) out
 
--- A value afterwards: as it was on a refusal; else the value given.
+-- The value beside a verdict: the one given, or on a refusal the one that stands in for it.
 unfoldable pub valueAfter : {A : Type 0} → A → Answer A Unit → A
-valueAfter before (refused n) = before
-valueAfter before (given a u) = a
+valueAfter none (refused n) = none
+valueAfter none (given a u) = a
 
 -- The same answer about something else: its refusal, or its bytes, stay.
 unfoldable pub about : {A A′ B : Type 0} → A′ → Answer A B → Answer A′ B
@@ -83,7 +83,8 @@ about a (given a′ b) = given a b
 abbrev pub written : List ℕ → Answer Unit (List ℕ)
 written b = given tt b
 
--- Document 01's number and values for each case of the code's answers.
+-- The documents' number and values for each case of the code's answers (document 01, "Forms we want to see": "this paper's number and values for
+-- each case").
 unfoldable pub verdictResult : Verdict → Check
 verdictResult Verdict·of.Passed = passed
 verdictResult (Verdict·of.Refused r) = failed (refusalNumber r)

@@ -18,14 +18,14 @@ pub(crate) fn make(call: Call, bytes: &[u8], kept: Kept, log: &mut [u8]) -> Kept
         call::LOG => with_log(kept, append(front(bytes, call[1]), 1, log, 0)),
         call::LOG_MORE => with_log(kept, append(front(bytes, call[2]), call[1], log, length)),
         _ => {
-            use_log(call, bytes, front(log, length));
+            answer_call(call, bytes, front(log, length));
             kept
         }
     }
 }
 
-// log BYTES and log-more TIMES BYTES: puts bytes so many times behind a log of this length, and answers its length then. A log of its own
-// starts behind an empty one.
+// log BYTES and log-more TIMES BYTES: puts bytes so many times behind a log of this length, and answers its length then. `log`
+// puts them behind an empty log.
 fn append(bytes: &[u8], times: usize, log: &mut [u8], length: usize) -> usize {
     if !has_room(log, length, bytes.len(), times) {
         print::bad_line();
@@ -64,7 +64,7 @@ fn append_once(bytes: &[u8], log: &mut [u8], end: usize) -> usize {
     end + bytes.len()
 }
 
-fn use_log(call: Call, bytes: &[u8], log: &[u8]) {
+fn answer_call(call: Call, bytes: &[u8], log: &[u8]) {
     match call[0] {
         call::EVENT_READ => read(log),
         call::EVENT_WRITE => write(call, bytes),

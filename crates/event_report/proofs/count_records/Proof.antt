@@ -4,8 +4,11 @@ use native.Mathlib.Nat.{add-sub-cancel-left}
 use native.Mathlib.Omega.{arith}
 use borrow.Author.Needs.{needs}
 use borrow.Author.Tests.{not-true, not-false}
+use lib.Dec.{ltb}
 use Rattle.message_rules.specs.Answer.{require, after, valueResult, valueAfter}
-use Rattle.event_report.proofs.Counting.{Counting, first, next, late, all-legal, all-counted, class-below, source-below, class-most, source-most, earlier-few, at-most-one}
+use Rattle.event_rules.proofs.Choices.{class-below, source-below}
+use Rattle.event_rules.proofs.Turns.{at-most}
+use Rattle.event_report.proofs.Counting.{Counting, first, next, late, all-legal, all-counted, class-most, source-most, earlier-few}
 use Rattle.event_report.proofs.count_records.Statement.{statement}
 use Rattle.event_report.proofs.count_records.Tie as tie
 
@@ -40,13 +43,14 @@ add-sources c =
 add-earlier : tie.Need-add-earlier Inv-loop μ-loop
 add-earlier c =
     let start = c .before .before .before .before .before .before .before .before .before in
-    rw (c .one-if .ensures, at-most-one) (omega (arith, earlier-few (start .loop .inv) (start .before .before .pre)))
+    omega (arith, at-most (ltb (c .before .time-of .result) (start .loop .before)) 1 _ (c .one-if .ensures), earlier-few (start .loop .inv) (start .before .before .pre))
 
 loop-again : tie.Need-loop-again Inv-loop μ-loop
 loop-again c =
-    let turn = c .before .before .before .before .before .before .before .before in
-    let read = rw add-sub-cancel-left at (c .before .before .before .before .before .before .record-in .ensures) in
-    let legal = sym (c .before .before .before .before .before .in-second .ensures) ∙ not-false _ (c .before .before .before .before .if1 .left) in
+    let judged = c .before .before .before .before in
+    let turn = judged .before .before .before .before in
+    let read = rw add-sub-cancel-left at (judged .before .before .record-in .ensures) in
+    let legal = sym (judged .before .in-second .ensures) ∙ not-false _ (judged .if1 .left) in
     rw (c .before .before .before .event-class .ensures, c .before .before .event-source .ensures, c .one-if .ensures, c .before .time-of .ensures)
     (next (turn .before .loop .inv) (turn .loop-test .taken) _ read legal)
 
