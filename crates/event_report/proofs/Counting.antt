@@ -111,6 +111,11 @@ earlier-most before (e ∷ l) = by (ltb (time (recordOf e)) before) (earlier-mos
     by true h = omega arith
     by false h = omega arith
 
+-- One or nothing is 1 less something, so that it is at most 1 whatever the test is.
+pub at-most-one : (t : Bool) → cond {A = ℕ} t 1 0 ≡ 1 - cond t 0 1
+at-most-one true = refl
+at-most-one false = refl
+
 -- One more where a test holds, as the code and as the rule add it.
 added : (t : Bool) (m n : ℕ) → m + cond t 1 0 + n ≡ m + tally t n
 unfolding tally

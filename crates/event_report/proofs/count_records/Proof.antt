@@ -4,11 +4,9 @@ use native.Mathlib.Nat.{add-sub-cancel-left}
 use native.Mathlib.Omega.{arith}
 use borrow.Author.Needs.{needs}
 use borrow.Author.Tests.{not-true, not-false}
-use lib.Dec.{ltb}
 use Rattle.message_rules.specs.Answer.{require, after, valueResult, valueAfter}
 use Rattle.event_rules.proofs.Choices.{class-below, source-below}
-use Rattle.event_rules.proofs.Turns.{at-most}
-use Rattle.event_report.proofs.Counting.{Counting, first, next, late, all-legal, all-counted, class-most, source-most, earlier-few}
+use Rattle.event_report.proofs.Counting.{Counting, first, next, late, all-legal, all-counted, class-most, source-most, earlier-few, at-most-one}
 use Rattle.event_report.proofs.count_records.Statement.{statement}
 use Rattle.event_report.proofs.count_records.Tie as tie
 
@@ -43,7 +41,7 @@ add-sources c =
 add-earlier : tie.Need-add-earlier Inv-loop μ-loop
 add-earlier c =
     let start = c .before .before .before .before .before .before .before .before .before in
-    omega (arith, at-most (ltb (c .before .time-of .result) (start .loop .before)) 1 _ (c .one-if .ensures), earlier-few (start .loop .inv) (start .before .before .pre))
+    rw (c .one-if .ensures, at-most-one) (omega (arith, earlier-few (start .loop .inv) (start .before .before .pre)))
 
 loop-again : tie.Need-loop-again Inv-loop μ-loop
 loop-again c =

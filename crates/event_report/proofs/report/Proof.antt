@@ -4,7 +4,7 @@ use borrow.Author.Needs.{needs}
 use Rattle.message_rules.specs.Answer.{after, verdictResult, valueResult, valueAfter}
 use Rattle.event_rules.specs.Logs.{logChecks}
 use Rattle.event_rules.specs.Reports.{eventReport}
-use Rattle.event_rules.proofs.Lengths.{length-failed, length-passed}
+use Rattle.event_rules.proofs.Order.{length-failed, length-passed}
 use Rattle.event_report.proofs.report.Statement.{statement}
 use Rattle.event_report.proofs.report.Tie as tie
 
