@@ -14,9 +14,10 @@ use Rattle.link_rules.specs.Link.{linkWrite}
 use Rattle.device_rules.specs.declared.Addressing.{Addressing}
 use Rattle.device_rules.specs.declared.Device.{Device}
 use Rattle.device_rules.specs.declared.Fault.{Fault}
+use Rattle.device_rules.specs.Faults.{commandFault}
 use Rattle.device_rules.specs.Commands.{afterCommand}
 use Rattle.device_rules.specs.Answers.{receiveResult, afterReceive}
-use Rattle.device_rules.specs.Receive.{Reply, answers, commandAnswer, commandReply, silence, kindReply, addressedReply}
+use Rattle.device_rules.specs.Receive.{Reply, answers, commandAnswer, commandReply, telecommandReply, silence, kindReply, addressedReply}
 use Rattle.device_rules.proofs.Receive.{silence-fits}
 use Rattle.device_rules.specs.declared.Outcome.the-variants as Outcome·of
 use Rattle.device_rules.specs.declared.Received.{Received}
@@ -40,11 +41,12 @@ by-kind k k′ d store m p e = rw e
 pub by-addressing : (a a′ : Addressing) (d : Device) (store : ℕ) (m : Message) (p : List ℕ) → a ≡ a′ → addressedReply a d store m p ≡ addressedReply a′ d store m p
 by-addressing a a′ d store m p e = rw e
 
--- A command by its fault, with the unit and the answer that it comes to.
-pub command-reply : (d : Device) (m : Message) (p : List ℕ) (f f′ : Fault) (next : Device) (answer : Message) → f′ ≡ f → next ≡ afterCommand d (m .id) p f
-    → answer ≡ commandAnswer d m f′ → commandReply d m p f ≡ about (answers next) (linkWrite (d .link) answer [])
+-- A telecommand by its fault, with the unit and the answer that it comes to.
+pub command-reply : (d : Device) (store : ℕ) (m : Message) (p : List ℕ) (f : Fault) (next : Device) (answer : Message) → f ≡ commandFault d store (m .id) p
+    → next ≡ afterCommand d (m .id) p (commandFault d store (m .id) p) → answer ≡ commandAnswer d m f
+    → telecommandReply d store m p ≡ about (answers next) (linkWrite (d .link) answer [])
 unfolding commandReply
-command-reply d m p f f′ next answer e done same = rw (done, same, e)
+command-reply d store m p f next answer e done same = rw (done, same, e)
 
 -- What a writer answered, told with the unit.
 module _ (d next : Device) (out out′ : List ℕ) where

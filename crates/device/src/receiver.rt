@@ -92,10 +92,7 @@ fn after_broadcast(device: Device, store: usize, message: Message, payload: &[u8
 {
     let kind = message.kind;
     match kind {
-        Kind::Telecommand => {
-            let commanded = device_commands::carry_out(device, store, message.id, payload);
-            commanded.device
-        }
+        Kind::Telecommand => device_commands::after_command(device, store, message.id, payload),
         Kind::TelecommandAck => device,
         Kind::TelecommandNack => device,
         Kind::TelemetryRequest => device,
@@ -129,6 +126,8 @@ fn kind_reply(
     }
 }
 
+// The answer is written first, so that no second unit is kept beside the one that came; the fault is looked at twice, for the answer and for the
+// command.
 fn telecommand_reply(
     device: Device,
     store: usize,
@@ -140,11 +139,19 @@ fn telecommand_reply(
     ensures { λ r. ⌜ r .device ≡ afterReceive device (within (now (out .entry)) (telecommandReply device store message (now (payload .entry)))) ⌝ }
     ensures { λ _. ⌜ now (out .exit) ≡ outputAfter (within (now (out .entry)) (telecommandReply device store message (now (payload .entry)))) (now (out .entry)) ⌝ }
 {
-    let commanded = device_commands::carry_out(device, store, message.id, payload);
-    let next = commanded.device;
-    let fault = commanded.fault;
+    let link = device.link;
+    let fault = device_faults::command_fault(device, store, message.id, payload);
     let answer = command_answer(device, message, fault);
-    send(device, next, answer, &[], out)
+    match link_writer::write(link, answer, &[], out) {
+        WriteAnswer::Length(n) => Received {
+            device: device_commands::after_command(device, store, message.id, payload),
+            outcome: Outcome::Answer(n),
+        },
+        WriteAnswer::Refused(refusal) => Received {
+            device,
+            outcome: Outcome::Refused(refusal),
+        },
+    }
 }
 
 fn command_answer(device: Device, request: Message, fault: Fault) -> Message
@@ -167,26 +174,26 @@ fn telemetry_reply(device: Device, message: Message, out: &mut [u8]) -> Received
         let transfer = device.transfer;
         let info = info_bytes(transfer);
         let answer = answer_to(device, message, Kind::TelemetryResponse, 0, 0);
-        return send(device, device, answer, &info, out);
+        return send(device, answer, &info, out);
     }
     let answer = answer_to(device, message, Kind::TelemetryNack, 1, 0);
-    send(device, device, answer, &[], out)
+    send(device, answer, &[], out)
 }
 
-// Writes an answer, with the unit as it is before and after it.
-fn send(before: Device, next: Device, answer: Message, payload: &[u8], out: &mut [u8]) -> Received
-    ensures { λ r. ⌜ receiveResult (r .outcome) (r .device) ≡ counted (within (now (out .entry)) (about (answers next) (linkWrite (before .link) answer (now (payload .entry))))) ⌝ }
-    ensures { λ r. ⌜ r .device ≡ afterReceive before (within (now (out .entry)) (about (answers next) (linkWrite (before .link) answer (now (payload .entry))))) ⌝ }
-    ensures { λ _. ⌜ now (out .exit) ≡ outputAfter (within (now (out .entry)) (about (answers next) (linkWrite (before .link) answer (now (payload .entry))))) (now (out .entry)) ⌝ }
+// Writes the answer of a unit that stays as it is.
+fn send(device: Device, answer: Message, payload: &[u8], out: &mut [u8]) -> Received
+    ensures { λ r. ⌜ receiveResult (r .outcome) (r .device) ≡ counted (within (now (out .entry)) (about (answers device) (linkWrite (device .link) answer (now (payload .entry))))) ⌝ }
+    ensures { λ r. ⌜ r .device ≡ afterReceive device (within (now (out .entry)) (about (answers device) (linkWrite (device .link) answer (now (payload .entry))))) ⌝ }
+    ensures { λ _. ⌜ now (out .exit) ≡ outputAfter (within (now (out .entry)) (about (answers device) (linkWrite (device .link) answer (now (payload .entry))))) (now (out .entry)) ⌝ }
 {
-    let link = before.link;
+    let link = device.link;
     match link_writer::write(link, answer, payload, out) {
         WriteAnswer::Length(n) => Received {
-            device: next,
+            device,
             outcome: Outcome::Answer(n),
         },
         WriteAnswer::Refused(refusal) => Received {
-            device: before,
+            device,
             outcome: Outcome::Refused(refusal),
         },
     }

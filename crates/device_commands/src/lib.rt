@@ -13,24 +13,13 @@ use device_rules::Device;
 use device_rules::Fault;
 use device_rules::Transfer;
 
-// The unit after a command, and what kept the command from being carried out.
-pub struct Commanded {
-    pub device: Device,
-    pub fault: Fault,
-}
-
-// Carries a command out, unless it has a fault; a store of so many bytes is lent.
-pub fn carry_out(device: Device, store: usize, id: u8, payload: &[u8]) -> Commanded
-    ensures { λ r. ⌜ r .fault ≡ commandFault device store id (now (payload .entry)) ⌝ }
-    ensures { λ r. ⌜ r .device ≡ afterCommand device id (now (payload .entry)) (commandFault device store id (now (payload .entry))) ⌝ }
+// The unit after a command, while a store of so many bytes is lent: carried out, unless it has a fault.
+pub fn after_command(device: Device, store: usize, id: u8, payload: &[u8]) -> Device
+    ensures { λ r. ⌜ r ≡ afterCommand device id (now (payload .entry)) (commandFault device store id (now (payload .entry))) ⌝ }
 {
-    let fault = device_faults::command_fault(device, store, id, payload);
-    match fault {
-        Fault::None => Commanded {
-            device: command_done(device, id, payload),
-            fault,
-        },
-        Fault::Nack(_, _) => Commanded { device, fault },
+    match device_faults::command_fault(device, store, id, payload) {
+        Fault::None => command_done(device, id, payload),
+        Fault::Nack(_, _) => device,
     }
 }
 

@@ -18,7 +18,9 @@ same-length c = search needs
 
 returns : tie.Need-returns
 returns c =
-    let e = rw (c .before .n .given .1) at (c .before .before .before .before .before .write .ensures) in
+    let told = c .before in
+    let written = told .before .before .before .before in
+    let e = rw (told .n .given .1) at (written .write .ensures) in
     answer-gives _ _ _ _ _ (e .1) _ (e .0)
 
 same-length-2 : tie.Need-same-length-2
@@ -26,7 +28,9 @@ same-length-2 c = search needs
 
 returns-2 : tie.Need-returns-2
 returns-2 c =
-    let e = rw (c .before .refusal .given .1) at (c .before .before .before .before .before .write .ensures) in
+    let told = c .before in
+    let written = told .before .before .before .before in
+    let e = rw (told .refusal .given .1) at (written .write .ensures) in
     refusal-gives _ _ _ _ _ (e .1) _ (e .0)
 
 pub send-spec : {M : Type 1} → statement M

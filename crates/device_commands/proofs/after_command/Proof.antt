@@ -3,8 +3,8 @@ use mathlib.Core.Path.{sym, _∙_}
 use Rattle.device_rules.specs.Commands.{afterCommand}
 use Rattle.device_commands.proofs.Lengths.{payload-lengths}
 use borrow.Author.Needs.{needs}
-use Rattle.device_commands.proofs.carry_out.Statement.{statement}
-use Rattle.device_commands.proofs.carry_out.Tie as tie
+use Rattle.device_commands.proofs.after_command.Statement.{statement}
+use Rattle.device_commands.proofs.after_command.Tie as tie
 
 command-fault-requires : tie.Need-command-fault-requires
 command-fault-requires c κs = search needs
@@ -20,15 +20,13 @@ enum-told-2 c = search needs
 
 returns : tie.Need-returns
 unfolding afterCommand
-returns c =
-    let fault = c .before .before .before .command-fault .ensures in
-    (fault, rw (sym fault ∙ c .before .enum-told .given .1) (c .command-done .ensures))
+returns c = rw (sym (c .before .before .before .command-fault .ensures) ∙ c .before .enum-told .given .1) (c .command-done .ensures)
 
 returns-2 : tie.Need-returns-2
 unfolding afterCommand
-returns-2 c = (search needs, cc)
+returns-2 c = cc
 
-pub carry-out-spec : {M : Type 1} → statement M
-carry-out-spec =
+pub after-command-spec : {M : Type 1} → statement M
+after-command-spec =
     tie.close
     (tie.spec command-fault-requires enum-told command-done-requires enum-told-2 returns returns-2)
