@@ -24,7 +24,7 @@ returns c = rw (sym (c .before .before .before .command-fault .ensures) ∙ c .b
 
 returns-2 : tie.Need-returns-2
 unfolding afterCommand
-returns-2 c = cc
+returns-2 c = rw (sym (c .before .before .command-fault .ensures) ∙ c .enum-told2 .given .1)
 
 pub after-command-spec : {M : Type 1} → statement M
 after-command-spec =
