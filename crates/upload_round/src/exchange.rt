@@ -1,12 +1,12 @@
 // The exchange of a round. Request and answers go through arrays of 522 bytes, which every message of every link fits.
 ghost use mathlib.Core.Path.{_≡_};
 ghost use Rattle.message_rules.specs.Answer.{verdictResult};
-ghost use Rattle.upload_round.specs.Ends.{Requested, Exchanged, Arrived, outcomeCheck, Heard};
+ghost use Rattle.upload_round.specs.Ends.{Requested, Exchanged, Arrived, outcomeCheck, Heard, Stopped};
 use crate::Rounded;
-use crate::stopped;
 use device::Device;
 use device::Outcome;
 use device::UnitAnswer;
+use message_rules::Refusal;
 use message_rules::Verdict;
 use round_rules::Fate;
 use sender_rules::RequestAnswer;
@@ -131,5 +131,16 @@ fn heard(device: Device, sender: Sender, file: &[u8], answer: &[u8]) -> Rounded
             verdict: Verdict::Passed,
         },
         SenderAnswer::Refused(refusal) => stopped(device, sender, refusal),
+    }
+}
+
+// A round that a refused call ended.
+fn stopped(device: Device, sender: Sender, refusal: Refusal) -> Rounded
+    ensures { λ r. ⌜ Stopped r device sender refusal ⌝ }
+{
+    Rounded {
+        device,
+        sender,
+        verdict: Verdict::Refused(refusal),
     }
 }

@@ -8,9 +8,7 @@ ghost use mathlib.Core.Path.{_≡_};
 ghost use Rattle.message_rules.specs.Answer.{verdictResult};
 ghost use Rattle.round_rules.specs.Rounds.{nothingSent, roundMade, roundRefusal};
 ghost use Rattle.sender_rules.specs.Sending.{sending};
-ghost use Rattle.upload_round.specs.Ends.{Stopped};
 use device::Device;
-use message_rules::Refusal;
 use message_rules::Verdict;
 use round_rules::Round;
 use sender_rules::Sender;
@@ -39,17 +37,10 @@ pub fn round(device: Device, sender: Sender, round: Round, file: &[u8], store: &
     let verdict = stepped.verdict;
     match verdict {
         Verdict::Passed => exchange::requested(unit, sender, fate, file, store),
-        Verdict::Refused(refusal) => stopped(unit, sender, refusal),
-    }
-}
-
-// A round that a refused call ended.
-pub(crate) fn stopped(device: Device, sender: Sender, refusal: Refusal) -> Rounded
-    ensures { λ r. ⌜ Stopped r device sender refusal ⌝ }
-{
-    Rounded {
-        device,
-        sender,
-        verdict: Verdict::Refused(refusal),
+        Verdict::Refused(refusal) => Rounded {
+            device: unit,
+            sender,
+            verdict: Verdict::Refused(refusal),
+        },
     }
 }

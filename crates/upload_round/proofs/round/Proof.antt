@@ -1,6 +1,7 @@
 -- Carried by the work step, done or not, in front of the request.
 use borrow.Author.Needs.{needs}
 use borrow.Author.Tests.{not-true, not-false}
+use mathlib.Core.Path.{refl}
 use Rattle.round_rules.specs.Rounds.{roundMade, roundRefusal}
 use Rattle.upload_round.proofs.Made.{worked-ends, worked-stopped, round-rest, round-work}
 use Rattle.upload_round.proofs.Results.{was-passed, was-stopped, work-verdict}
@@ -31,9 +32,6 @@ requested-requires-2 c κs = search needs
 enum-known-verdict : tie.Need-enum-known-verdict
 enum-known-verdict c = search needs
 
-stopped-requires : tie.Need-stopped-requires
-stopped-requires c κs = search needs
-
 same-length-2 : tie.Need-same-length-2
 same-length-2 c = search needs
 
@@ -52,10 +50,10 @@ same-length-3 c = search needs
 returns-3 : tie.Need-returns-3
 unfolding roundMade roundRefusal
 returns-3 c =
-    let work = c .before .before .before .before .before .before .before in
+    let work = c .before .before .before .before .before .before in
     let e = work .work .ensures in
-    let g = was-stopped _ _ (work-verdict _ _ _ (e .0)) _ (c .before .before .verdict .given .1) in
-    let k = round-work _ _ _ _ _ (not-false _ (work .before .before .if1 .left)) (worked-stopped _ _ _ _ _ _ _ (e .1 .1) _ g (rw (e .1 .0) at (c .stopped .ensures))) in
+    let g = was-stopped _ _ (work-verdict _ _ _ (e .0)) _ (c .before .verdict .given .1) in
+    let k = round-work _ _ _ _ _ (not-false _ (work .before .before .if1 .left)) (worked-stopped _ _ _ _ _ _ _ (e .1 .1) _ g (record { device = e .1 .0; sender = refl; verdict = refl })) in
     (k .refusal, (k .device, (k .sender, k .store)))
 
 pub round-spec : {M : Type 1} → statement M
@@ -69,7 +67,6 @@ round-spec =
     enum-told
     requested-requires-2
     enum-known-verdict
-    stopped-requires
     same-length-2
     returns-2
     same-length-3
