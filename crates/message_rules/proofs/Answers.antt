@@ -23,6 +23,12 @@ module _ {A : Type 0} (out : List ℕ) (a : A) (b : List ℕ) where
   unfolding within require after
   long-enough h = rw le-leb
 
+-- Of the output its length alone decides.
+pub same-room : {A : Type 0} (out out′ : List ℕ) → length out ≡ length out′ → (x : Answer A (List ℕ)) → within out x ≡ within out′ x
+unfolding within
+same-room out out′ e (refused n) = refl
+same-room out out′ e (given a b) = rw e
+
 -- What a caller can tell from an answer: a refusal is the output's, and a count is that of the bytes, which fit.
 module _ {A : Type 0} (a : A) (out b : List ℕ) (n : ℕ) where
   pub counted-short : counted (within out (given a b)) ≡ refused n → (length out < length b) × (n ≡ 8)

@@ -4,14 +4,18 @@ use Prim.Native.Nat.{ℕ}
 use mathlib.Core.Bool.{true, false}
 use mathlib.Core.List.{List, [], _∷_}
 use lib.ListN.{length}
-use mathlib.Core.Path.{_≡_, refl, _∙_}
-use Rattle.message_rules.specs.Answer.{Answer, refused, given, refusalNumber, passed, failed, within, verdictResult}
+use mathlib.Core.Path.{_≡_, refl, sym, _∙_}
+use native.Mathlib.Omega.{arith}
+use Rattle.message_rules.specs.Answer.{Answer, refused, given, refusalNumber, passed, failed, within, counted, outputAfter, verdictResult}
+use Rattle.message_rules.proofs.Answers.{same-room}
 use Rattle.message_rules.specs.declared.Refusal.{Refusal}
 use Rattle.message_rules.specs.declared.Verdict.the-variants.{Passed}
-use Rattle.device_rules.specs.Answers.{afterReceive}
-use Rattle.device_rules.specs.Receive.{Reply}
+use Rattle.device_rules.specs.Answers.{receiveResult, afterReceive}
+use Rattle.device_rules.specs.Receive.{Reply, receive}
 use Rattle.device_rules.specs.Work.{work, storeAfter, afterWork}
 use Rattle.device_rules.specs.declared.Device.{Device}
+use Rattle.device_rules.specs.declared.Outcome.the-variants as Outcome·of
+use Rattle.device_rules.specs.declared.Received.{Received}
 use Rattle.sender_rules.specs.Hearing.{hear}
 use Rattle.round_rules.specs.Rounds.{nothingSent, choose, made, firstRefusal}
 use Rattle.round_rules.specs.Schedule.{output, exchange, requested, roundCalls}
@@ -20,11 +24,12 @@ use Rattle.sender_rules.specs.Sender.{request}
 use Rattle.round_rules.specs.Requester.{Sent, isRunning, shared, lent, kept}
 use Rattle.round_rules.specs.World.{World, Call, works, asks, arrives, hears, bytesOr, requesterOr, does, answerCheck, callCheck}
 use Rattle.round_rules.specs.declared.Fate.{Fate}
-use Rattle.round_rules.specs.declared.Fate.the-variants.{Delivered, AnswerLost, Twice}
+use Rattle.round_rules.specs.declared.Fate.the-variants.{Delivered, RequestLost, AnswerLost, Twice}
 use Rattle.round_rules.specs.declared.Round.{Round}
 use Rattle.sender_rules.specs.declared.Sender.{Sender}
 use Rattle.upload_round.specs.declared.Rounded.{Rounded}
-use Rattle.upload_round.specs.Ends.{asking, Ends, Requested, Exchanged, replyTo, Heard, Stopped}
+use Rattle.upload_round.specs.Ends.{asking, Ends, Requested, Exchanged, replyTo, Heard, Stopped, Arrived, unheard, isRefused}
+use Rattle.upload_round.proofs.Results.{answered, was-silent, was-refused, outcome-passes, refused-answer, refused-silent, unheard-answer, unheard-silent, unheard-refused}
 
 module _ (r : Rounded) (store file : List ℕ) (w : World Sender) (c : Call) (h : List Call) where
   -- A call that passes, in front of calls,
@@ -102,6 +107,71 @@ pub twice-ends : (r : Rounded) (d : Device) (store : List ℕ) (s : Sender) (fil
     → next ≡ afterReceive d (replyTo d store rq) → Exchanged r next s Delivered file store rq → Exchanged r d s Twice file store rq
 unfolding exchange callCheck does lent
 twice-ends r d store s file rq e next n k = goes-on r store file (asking d store s rq) (arrives rq shared output) _ e (forgets r _ store s file rq _ (rw n at k))
+
+-- The arrivals of each fate. A request that is lost has none,
+pub none-arrived : (d : Device) (left store rq : List ℕ) → Arrived (record { device = d; outcome = Outcome·of.Silent }) left d RequestLost store rq
+unfolding exchange
+none-arrived d left store rq =
+    record {
+      answer = λ n e. absurd (let z : _≡_ {A = ℕ} 0 1 = cc in omega arith);
+      heard = λ n e z s file h. absurd (let z : _≡_ {A = ℕ} 0 1 = cc in omega arith);
+      silent = λ e z s file h. last-call z file (asking d store s rq) [] h;
+      refused = λ g e z s file k. absurd (let z : _≡_ {A = ℕ} 0 1 = cc in omega arith);
+    }
+
+-- and one that arrives is received; what the output held before does not matter.
+module _ (d : Device) (store rq out left : List ℕ) (r : Received) (room : length out ≡ length output)
+    (result : receiveResult (r .outcome) (r .device) ≡ counted (within out (receive d (length store) rq)))
+    (device : r .device ≡ afterReceive d (within out (receive d (length store) rq)))
+    (lies : left ≡ outputAfter (within out (receive d (length store) rq)) out) where
+  same : replyTo d store rq ≡ within out (receive d (length store) rq)
+  same = same-room output out (sym room) _
+
+  unit : r .device ≡ afterReceive d (replyTo d store rq)
+  unit = rw same device
+
+  passes : isRefused (r .outcome) ≡ false → answerCheck (replyTo d store rq) ≡ passed
+  passes e = rw same (outcome-passes _ (r .outcome) (r .device) result e)
+
+  pub delivered-arrived : Arrived r left d Delivered store rq
+  unfolding exchange
+  delivered-arrived =
+      record {
+        answer = λ n e. answered out d (length store) rq _ _ result left lies n e .1;
+        heard = λ n e z s file h. delivered-ends z d store s file rq _ _ (same ∙ answered out d (length store) rq _ _ result left lies n e .0) (rw unit at h);
+        silent = λ e z s file h. delivered-ends z d store s file rq _ _ (same ∙ was-silent out d (length store) rq _ _ result e) (rw unit at h);
+        refused = λ g e z s file k. stopped-ends z d store s file rq g (same ∙ was-refused out d (length store) rq _ _ result g e) (rw unit at k) _;
+      }
+
+  pub unheard-arrived : (q : Received) (left′ : List ℕ) → q .device ≡ r .device → q .outcome ≡ unheard (r .outcome) → Arrived q left′ d AnswerLost store rq
+  unfolding exchange
+  unheard-arrived q left′ kept told =
+      record {
+        answer = λ n e. absurd (unheard-answer (r .outcome) n (sym told ∙ e));
+        heard = λ n e z s file h. absurd (unheard-answer (r .outcome) n (sym told ∙ e));
+        silent = λ e z s file h. lost-ends z d store s file rq (passes (unheard-silent (r .outcome) (sym told ∙ e))) (rw (kept ∙ unit) at h);
+        refused = λ g e z s file k. stopped-ends z d store s file rq g (same ∙ was-refused out d (length store) rq _ _ result g (unheard-refused (r .outcome) g (sym told ∙ e))) (rw (kept ∙ unit) at k) _;
+      }
+
+  -- Where the first of two arrivals passes the second decides, and where it is refused nothing follows.
+  pub twice-arrived : isRefused (r .outcome) ≡ false → (q : Received) (left′ : List ℕ) → Arrived q left′ (r .device) Delivered store rq → Arrived q left′ d Twice store rq
+  twice-arrived e q left′ k =
+      record {
+        answer = k .answer;
+        heard = λ n o z s file h. twice-ends z d store s file rq (passes e) (r .device) unit (k .heard n o z s file h);
+        silent = λ o z s file h. twice-ends z d store s file rq (passes e) (r .device) unit (k .silent o z s file h);
+        refused = λ g o z s file h. twice-ends z d store s file rq (passes e) (r .device) unit (k .refused g o z s file h);
+      }
+
+  pub refused-arrived : isRefused (r .outcome) ≡ true → Arrived r left d Twice store rq
+  unfolding exchange
+  refused-arrived q =
+      record {
+        answer = λ n e. absurd (refused-answer (r .outcome) n q e);
+        heard = λ n e z s file h. absurd (refused-answer (r .outcome) n q e);
+        silent = λ e z s file h. absurd (refused-silent (r .outcome) q e);
+        refused = λ g e z s file k. stopped-ends z d store s file rq g (same ∙ was-refused out d (length store) rq _ _ result g e) (rw unit at k) _;
+      }
 
 -- The sender's request in front of the exchange.
 module _ (r : Rounded) (d : Device) (store : List ℕ) (s : Sender) (file : List ℕ) (f : Fate) where

@@ -24,7 +24,7 @@ use Rattle.round_rules.specs.Requester.{sent, nothing, isRunning}
 use Rattle.sender_rules.specs.declared.RequestAnswer.{RequestAnswer}
 use Rattle.sender_rules.specs.declared.RequestAnswer.the-variants as RequestAnswer·of
 use Rattle.sender_rules.specs.declared.Sender.{Sender}
-use Rattle.upload_round.specs.Ends.{outcomeCheck}
+use Rattle.upload_round.specs.Ends.{unheard, isRefused}
 
 -- A sender that has nothing to send has ended.
 asked-something : (c : Check) (x : Answer Unit (List ℕ)) (out b : List ℕ) → within out (after c (about sent x)) ≡ given nothing b → ⊥
@@ -55,32 +55,55 @@ written-runs s file b e = by (isRunning (s .state)) refl
     by false q = absurd (let z : _≡_ {A = ℕ} 0 1 = cc (rw q at e) in omega arith)
 
 -- What the unit made of a request.
-module _ (d : Device) (n : ℕ) (rq : List ℕ) (o : Outcome) (next : Device) (result : receiveResult o next ≡ counted (within output (receive d n rq))) where
-  pub answered : (left : List ℕ) → left ≡ outputAfter (within output (receive d n rq)) output → (k : ℕ) → o ≡ Outcome·of.Answer k
-      → (within output (receive d n rq) ≡ given (answers next) (take k left)) × (k ≤ length left)
+module _ (out : List ℕ) (d : Device) (n : ℕ) (rq : List ℕ) (o : Outcome) (next : Device) (result : receiveResult o next ≡ counted (within out (receive d n rq))) where
+  pub answered : (left : List ℕ) → left ≡ outputAfter (within out (receive d n rq)) out → (k : ℕ) → o ≡ Outcome·of.Answer k
+      → (within out (receive d n rq) ≡ given (answers next) (take k left)) × (k ≤ length left)
   unfolding receiveResult
-  answered left lies k e = counted-given _ output left lies (answers next) k (rw e at (sym result))
+  answered left lies k e = counted-given _ out left lies (answers next) k (rw e at (sym result))
 
-  pub was-silent : o ≡ Outcome·of.Silent → within output (receive d n rq) ≡ given (silent next) []
+  pub was-silent : o ≡ Outcome·of.Silent → within out (receive d n rq) ≡ given (silent next) []
   unfolding receiveResult
   was-silent e = counted-empty _ (silent next) (rw e at (sym result))
 
-  pub was-refused : (f : Refusal) → o ≡ Outcome·of.Refused f → within output (receive d n rq) ≡ refused (refusalNumber f)
+  pub was-refused : (f : Refusal) → o ≡ Outcome·of.Refused f → within out (receive d n rq) ≡ refused (refusalNumber f)
   unfolding receiveResult
   was-refused f e = counted-refused _ (refusalNumber f) (rw e at (sym result))
 
--- Whether it was refused.
-pub outcome-check : (x : Answer Reply (List ℕ)) (o : Outcome) (next : Device) → receiveResult o next ≡ counted x → outcomeCheck o ≡ answerCheck x
-unfolding receiveResult outcomeCheck counted answerCheck
-outcome-check x o next e = by x refl o refl
-  where
-    by : (y : Answer Reply (List ℕ)) → x ≡ y → (p : Outcome) → o ≡ p → outcomeCheck o ≡ answerCheck x
-    by (refused n) q (Outcome·of.Answer k) r = absurd (let z : _≡_ {A = ℕ} 0 1 = cc (rw (q, r) at e) in omega arith)
-    by (refused n) q Outcome·of.Silent r = absurd (let z : _≡_ {A = ℕ} 0 1 = cc (rw (q, r) at e) in omega arith)
-    by (refused n) q (Outcome·of.Refused f) r = rw (q, r) (cc (rw (q, r) at e))
-    by (given a b) q (Outcome·of.Answer k) r = rw (q, r)
-    by (given a b) q Outcome·of.Silent r = rw (q, r)
-    by (given a b) q (Outcome·of.Refused f) r = absurd (let z : _≡_ {A = ℕ} 0 1 = cc (rw (q, r) at e) in omega arith)
+-- An outcome that is no refusal passes,
+pub outcome-passes : (x : Answer Reply (List ℕ)) (o : Outcome) (next : Device) → receiveResult o next ≡ counted x → isRefused o ≡ false → answerCheck x ≡ passed
+unfolding receiveResult counted answerCheck isRefused
+outcome-passes (refused n) (Outcome·of.Answer k) next e q = absurd (let z : _≡_ {A = ℕ} 0 1 = cc in omega arith)
+outcome-passes (refused n) Outcome·of.Silent next e q = absurd (let z : _≡_ {A = ℕ} 0 1 = cc in omega arith)
+outcome-passes (refused n) (Outcome·of.Refused f) next e q = absurd (let z : _≡_ {A = ℕ} 0 1 = cc in omega arith)
+outcome-passes (given a b) o next e q = refl
+
+-- and one that is has neither an answer nor silence.
+pub refused-answer : (o : Outcome) (n : ℕ) → isRefused o ≡ true → o ≡ Outcome·of.Answer n → ⊥
+unfolding isRefused
+refused-answer o n q e = let z : _≡_ {A = ℕ} 0 1 = cc (rw e at q) in omega arith
+
+pub refused-silent : (o : Outcome) → isRefused o ≡ true → o ≡ Outcome·of.Silent → ⊥
+unfolding isRefused
+refused-silent o q e = let z : _≡_ {A = ℕ} 0 1 = cc (rw e at q) in omega arith
+
+-- What a lost answer leaves of an outcome.
+pub unheard-answer : (o : Outcome) (n : ℕ) → unheard o ≡ Outcome·of.Answer n → ⊥
+unfolding unheard
+unheard-answer (Outcome·of.Answer k) n e = let z : _≡_ {A = ℕ} 0 1 = cc in omega arith
+unheard-answer Outcome·of.Silent n e = let z : _≡_ {A = ℕ} 0 1 = cc in omega arith
+unheard-answer (Outcome·of.Refused f) n e = let z : _≡_ {A = ℕ} 0 1 = cc in omega arith
+
+pub unheard-silent : (o : Outcome) → unheard o ≡ Outcome·of.Silent → isRefused o ≡ false
+unfolding unheard isRefused
+unheard-silent (Outcome·of.Answer k) e = refl
+unheard-silent Outcome·of.Silent e = refl
+unheard-silent (Outcome·of.Refused f) e = absurd (let z : _≡_ {A = ℕ} 0 1 = cc in omega arith)
+
+pub unheard-refused : (o : Outcome) (g : Refusal) → unheard o ≡ Outcome·of.Refused g → o ≡ Outcome·of.Refused g
+unfolding unheard
+unheard-refused (Outcome·of.Answer k) g e = absurd (let z : _≡_ {A = ℕ} 0 1 = cc in omega arith)
+unheard-refused Outcome·of.Silent g e = absurd (let z : _≡_ {A = ℕ} 0 1 = cc in omega arith)
+unheard-refused (Outcome·of.Refused f) g e = e
 
 -- What the sender wrote.
 module _ (s : Sender) (file : List ℕ) (o : RequestAnswer) (result : requestResult o ≡ counted (within output (request s file))) where

@@ -1,17 +1,17 @@
 -- What the parts of a round are promised to leave (document 01, "The sender and its rounds").
-use Prim.Native.Nat.{ℕ}
+use Prim.Native.Nat.{ℕ, _≤_}
+use mathlib.Core.Bool.{Bool, true, false}
 use mathlib.Core.List.{List, []}
 use mathlib.Core.Path.{_≡_}
-use lib.ListN.{length}
-use Rattle.message_rules.specs.Answer.{Answer, Check, refusalNumber, passed, failed, within, verdictResult}
+use lib.ListN.{length, take}
+use Rattle.message_rules.specs.Answer.{Answer, within, verdictResult}
 use Rattle.message_rules.specs.declared.Refusal.{Refusal}
 use Rattle.message_rules.specs.declared.Verdict.the-variants.{Refused}
-use Rattle.device_rules.specs.Answers.{afterReceive}
 use Rattle.device_rules.specs.Receive.{Reply, receive}
 use Rattle.device_rules.specs.declared.Device.{Device}
 use Rattle.device_rules.specs.declared.Outcome.{Outcome}
 use Rattle.device_rules.specs.declared.Outcome.the-variants as Outcome·of
-use Rattle.device_rules.specs.declared.UnitAnswer.{UnitAnswer}
+use Rattle.device_rules.specs.declared.Received.{Received}
 use Rattle.round_rules.specs.Rounds.{nothingSent, made, firstRefusal}
 use Rattle.round_rules.specs.Schedule.{output, exchange, requested}
 use Rattle.round_rules.specs.World.{World, Call, requesterOr, answerCheck}
@@ -44,18 +44,7 @@ Exchanged r d s f file store request = let w = asking d store s request in Ends 
 abbrev pub replyTo : Device → List ℕ → List ℕ → Answer Reply (List ℕ)
 replyTo d store request = within output (receive d (length store) request)
 
--- After an arrival whose answer nobody hears,
-pub record Arrived (r : UnitAnswer) (d : Device) (store request : List ℕ) : Type 0 where
-  pub refusal : verdictResult (r .verdict) ≡ answerCheck (replyTo d store request)
-  pub device : r .device ≡ afterReceive d (replyTo d store request)
-
--- which passed unless the unit refused it,
-unfoldable pub outcomeCheck : Outcome → Check
-outcomeCheck (Outcome·of.Answer n) = passed
-outcomeCheck Outcome·of.Silent = passed
-outcomeCheck (Outcome·of.Refused f) = failed (refusalNumber f)
-
--- after the sender's answer call,
+-- After the sender's answer call,
 pub record Heard (r : Rounded) (d : Device) (s : Sender) (file answer : List ℕ) : Type 0 where
   pub refusal : verdictResult (r .verdict) ≡ answerCheck (hear s file answer)
   pub device : r .device ≡ d
@@ -66,3 +55,23 @@ pub record Stopped (r : Rounded) (d : Device) (s : Sender) (f : Refusal) : Type 
   pub device : r .device ≡ d
   pub sender : r .sender ≡ s
   pub verdict : r .verdict ≡ Refused f
+
+-- After the arrivals of a request, `left` being what the answer's array holds then: the exchange is over once the sender has heard the answer there, or none
+-- where the unit is silent, or once the call is refused.
+pub record Arrived (r : Received) (left : List ℕ) (d : Device) (f : Fate) (store request : List ℕ) : Type 0 where
+  pub answer : (n : ℕ) → r .outcome ≡ Outcome·of.Answer n → n ≤ length left
+  pub heard : (n : ℕ) → r .outcome ≡ Outcome·of.Answer n → (z : Rounded) (s : Sender) (file : List ℕ) → Heard z (r .device) s file (take n left) → Exchanged z d s f file store request
+  pub silent : r .outcome ≡ Outcome·of.Silent → (z : Rounded) (s : Sender) (file : List ℕ) → Heard z (r .device) s file [] → Exchanged z d s f file store request
+  pub refused : (g : Refusal) → r .outcome ≡ Outcome·of.Refused g → (z : Rounded) (s : Sender) (file : List ℕ) → Stopped z (r .device) s g → Exchanged z d s f file store request
+
+-- An outcome whose answer is lost: nobody hears it, and a refusal stays one.
+unfoldable pub unheard : Outcome → Outcome
+unheard (Outcome·of.Answer n) = Outcome·of.Silent
+unheard Outcome·of.Silent = Outcome·of.Silent
+unheard (Outcome·of.Refused f) = Outcome·of.Refused f
+
+-- Whether an arrival was refused.
+unfoldable pub isRefused : Outcome → Bool
+isRefused (Outcome·of.Answer n) = false
+isRefused Outcome·of.Silent = false
+isRefused (Outcome·of.Refused f) = true

@@ -1,11 +1,12 @@
 // The exchange of a round. Request and answers go through arrays of 522 bytes, which every message of every link fits.
 ghost use mathlib.Core.Path.{_≡_};
-ghost use Rattle.message_rules.specs.Answer.{verdictResult};
-ghost use Rattle.upload_round.specs.Ends.{Requested, Exchanged, Arrived, outcomeCheck, Heard, Stopped};
+ghost use lib.ListN.{length};
+ghost use Rattle.round_rules.specs.Schedule.{output};
+ghost use Rattle.upload_round.specs.Ends.{Requested, Exchanged, Arrived, unheard, isRefused, Heard, Stopped};
 use crate::Rounded;
 use device::Device;
 use device::Outcome;
-use device::UnitAnswer;
+use device::Received;
 use message_rules::Refusal;
 use message_rules::Verdict;
 use round_rules::Fate;
@@ -35,7 +36,7 @@ pub(crate) fn requested(
     }
 }
 
-// What becomes of a written request.
+// What becomes of a written request: its arrivals at the unit, and then the sender's answer call.
 fn sent(
     device: Device,
     sender: Sender,
@@ -46,20 +47,8 @@ fn sent(
 ) -> Rounded
     ensures { λ r. ⌜ Exchanged r device sender fate (now (file .entry)) (now (store .entry)) (now (request .entry)) ⌝ }
 {
-    match fate {
-        Fate::Delivered => delivered(device, sender, file, store, request),
-        Fate::RequestLost => heard(device, sender, file, &[]),
-        Fate::AnswerLost => answer_lost(device, sender, file, store, request),
-        Fate::Twice => twice(device, sender, file, store, request),
-    }
-}
-
-// The request arrives, and the sender hears the unit's answer.
-fn delivered(device: Device, sender: Sender, file: &[u8], store: &[u8], request: &[u8]) -> Rounded
-    ensures { λ r. ⌜ Exchanged r device sender Fate.Delivered (now (file .entry)) (now (store .entry)) (now (request .entry)) ⌝ }
-{
     let mut answer = [0u8; 522];
-    let received = device::receive(device, request, store, &mut answer);
+    let received = arrivals(device, fate, store, request, &mut answer);
     let unit = received.device;
     let outcome = received.outcome;
     match outcome {
@@ -69,54 +58,69 @@ fn delivered(device: Device, sender: Sender, file: &[u8], store: &[u8], request:
     }
 }
 
+// The arrivals of a request at the unit: none, one or two. The unit afterwards, and what the sender hears of its answer, which goes to the start of answer.
+fn arrivals(device: Device, fate: Fate, store: &[u8], request: &[u8], answer: &mut [u8]) -> Received
+    requires { ⌜ length (now answer) ≡ length output ⌝ }
+    ensures { λ r. ⌜ Arrived r (now (answer .exit)) device fate (now (store .entry)) (now (request .entry)) ⌝ }
+{
+    match fate {
+        Fate::Delivered => device::receive(device, request, store, answer),
+        Fate::RequestLost => Received {
+            device,
+            outcome: Outcome::Silent,
+        },
+        Fate::AnswerLost => answer_lost(device, store, request, answer),
+        Fate::Twice => twice(device, store, request, answer),
+    }
+}
+
 // The request arrives, and the sender hears nothing.
-fn answer_lost(device: Device, sender: Sender, file: &[u8], store: &[u8], request: &[u8]) -> Rounded
-    ensures { λ r. ⌜ Exchanged r device sender Fate.AnswerLost (now (file .entry)) (now (store .entry)) (now (request .entry)) ⌝ }
+fn answer_lost(device: Device, store: &[u8], request: &[u8], answer: &mut [u8]) -> Received
+    requires { ⌜ length (now answer) ≡ length output ⌝ }
+    ensures { λ r. ⌜ Arrived r (now (answer .exit)) device Fate.AnswerLost (now (store .entry)) (now (request .entry)) ⌝ }
 {
-    let arrived = unheard(device, store, request);
-    let unit = arrived.device;
-    let verdict = arrived.verdict;
-    match verdict {
-        Verdict::Passed => heard(unit, sender, file, &[]),
-        Verdict::Refused(refusal) => stopped(unit, sender, refusal),
-    }
-}
-
-// The request arrives, and arrives again: the sender hears the second answer.
-fn twice(device: Device, sender: Sender, file: &[u8], store: &[u8], request: &[u8]) -> Rounded
-    ensures { λ r. ⌜ Exchanged r device sender Fate.Twice (now (file .entry)) (now (store .entry)) (now (request .entry)) ⌝ }
-{
-    let first = unheard(device, store, request);
-    let unit = first.device;
-    let verdict = first.verdict;
-    match verdict {
-        Verdict::Passed => delivered(unit, sender, file, store, request),
-        Verdict::Refused(refusal) => stopped(unit, sender, refusal),
-    }
-}
-
-// An arrival whose answer nobody hears: the unit afterwards, and whether the call passed.
-fn unheard(device: Device, store: &[u8], request: &[u8]) -> UnitAnswer
-    ensures { λ r. ⌜ Arrived r device (now (store .entry)) (now (request .entry)) ⌝ }
-{
-    let mut answer = [0u8; 522];
-    let received = device::receive(device, request, store, &mut answer);
+    let received = device::receive(device, request, store, answer);
     let unit = received.device;
     let outcome = received.outcome;
-    UnitAnswer {
+    Received {
         device: unit,
-        verdict: arrival_verdict(outcome),
+        outcome: unheard(outcome),
     }
 }
 
-// Whether an arrival passed, whatever was answered.
-fn arrival_verdict(outcome: Outcome) -> Verdict
-    ensures { λ r. ⌜ verdictResult r ≡ outcomeCheck outcome ⌝ }
+// What is left of an outcome where the answer is lost: a refusal alone.
+fn unheard(outcome: Outcome) -> Outcome
+    ensures { λ r. ⌜ r ≡ unheard outcome ⌝ }
 {
     match outcome {
-        Outcome::Answer(_) => Verdict::Passed,
-        Outcome::Silent => Verdict::Passed,
-        Outcome::Refused(refusal) => Verdict::Refused(refusal),
+        Outcome::Answer(_) => Outcome::Silent,
+        Outcome::Silent => Outcome::Silent,
+        Outcome::Refused(refusal) => Outcome::Refused(refusal),
+    }
+}
+
+// The request arrives, and arrives again: the second answer takes the place of the first.
+fn twice(device: Device, store: &[u8], request: &[u8], answer: &mut [u8]) -> Received
+    requires { ⌜ length (now answer) ≡ length output ⌝ }
+    ensures { λ r. ⌜ Arrived r (now (answer .exit)) device Fate.Twice (now (store .entry)) (now (request .entry)) ⌝ }
+{
+    let first = device::receive(device, request, store, answer);
+    let outcome = first.outcome;
+    let unit = first.device;
+    if is_refused(outcome) {
+        first
+    } else {
+        device::receive(unit, request, store, answer)
+    }
+}
+
+fn is_refused(outcome: Outcome) -> bool
+    ensures { λ r. ⌜ r ≡ isRefused outcome ⌝ }
+{
+    match outcome {
+        Outcome::Answer(_) => false,
+        Outcome::Silent => false,
+        Outcome::Refused(_) => true,
     }
 }
 

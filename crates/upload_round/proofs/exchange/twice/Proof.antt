@@ -1,45 +1,51 @@
--- Carried by whether the first arrival passed: the second is an exchange of its own, at the unit that the first left.
+-- Carried by the first arrival: where it is refused nothing follows, and else the second decides.
 use borrow.Author.Needs.{needs}
-use Rattle.round_rules.specs.Schedule.{exchange}
-use Rattle.upload_round.proofs.Made.{twice-ends, stopped-ends}
-use Rattle.upload_round.proofs.Results.{was-passed, was-stopped}
+use mathlib.Core.Path.{sym, _∙_}
+use Rattle.upload_round.proofs.Made.{delivered-arrived, twice-arrived, refused-arrived}
 use Rattle.upload_round.proofs.exchange.twice.Statement.{statement}
 use Rattle.upload_round.proofs.exchange.twice.Tie as tie
 
-unheard-requires : tie.Need-unheard-requires
-unheard-requires c κs = search needs
+receive-requires : tie.Need-receive-requires
+receive-requires c κs = search needs
 
-enum-told : tie.Need-enum-told
-enum-told c = search needs
+is-refused-requires : tie.Need-is-refused-requires
+is-refused-requires c κs = search needs
 
-delivered-requires : tie.Need-delivered-requires
-delivered-requires c κs = search needs
+receive-requires-2 : tie.Need-receive-requires-2
+receive-requires-2 c κs = search needs
 
-enum-known-verdict : tie.Need-enum-known-verdict
-enum-known-verdict c = search needs
-
-stopped-requires : tie.Need-stopped-requires
-stopped-requires c κs = search needs
+same-length : tie.Need-same-length
+same-length c = search needs
 
 returns : tie.Need-returns
 returns c =
-    let first = c .before .before .before .before .unheard .ensures in
-    twice-ends _ _ _ _ _ _ (was-passed _ _ (first .refusal) (c .before .enum-told .given .1)) _ (first .device) (c .delivered .ensures)
+    let first = c .before .before .before .before .before in
+    let start = first .before .before .before .before .before in
+    let e = first .receive .ensures in
+    refused-arrived _ _ _ _ _ _ (start .pre) (e .0) (e .1 .0) (e .1 .1) (sym (c .before .is-refused .ensures) ∙ c .if1 .taken)
+
+same-length-2 : tie.Need-same-length-2
+same-length-2 c = search needs
 
 returns-2 : tie.Need-returns-2
-unfolding exchange
 returns-2 c =
-    let first = c .before .before .before .before .before .unheard .ensures in
-    stopped-ends _ _ _ _ _ _ _ (was-stopped _ _ (first .refusal) _ (c .before .before .verdict .given .1)) (rw (first .device) at (c .stopped .ensures)) _
+    let second = c .before .before in
+    let passed = second .before .before in
+    let first = passed .before .before .before .before .before in
+    let start = first .before .before .before .before .before in
+    let e = first .receive .ensures in
+    let f = second .receive2 .ensures in
+    let next = delivered-arrived _ _ _ _ _ _ (first .receive .kept .1 .1 .1 .0 ∙ start .pre) (f .0) (f .1 .0) (f .1 .1) in
+    twice-arrived _ _ _ _ _ _ (start .pre) (e .0) (e .1 .0) (e .1 .1) (sym (passed .before .is-refused .ensures) ∙ passed .if1 .left) _ _ next
 
 pub twice-spec : {M : Type 1} → statement M
 twice-spec =
     tie.close
     (tie.spec
-    unheard-requires
-    enum-told
-    delivered-requires
-    enum-known-verdict
-    stopped-requires
+    receive-requires
+    is-refused-requires
+    receive-requires-2
+    same-length
     returns
+    same-length-2
     returns-2)

@@ -1,24 +1,30 @@
--- Carried by what the unit answers, whose bytes are dropped.
+-- Carried by the outcome.
 use borrow.Author.Needs.{needs}
-use mathlib.Core.Path.{_∙_}
-use Rattle.upload_round.proofs.Results.{outcome-check}
+use Rattle.upload_round.specs.Ends.{unheard}
 use Rattle.upload_round.proofs.exchange.unheard.Statement.{statement}
 use Rattle.upload_round.proofs.exchange.unheard.Tie as tie
 
-slice-aggregate-receive : tie.Need-slice-aggregate-receive
-slice-aggregate-receive c = search needs
+enum-told : tie.Need-enum-told
+enum-told c = search needs
 
-receive-requires : tie.Need-receive-requires
-receive-requires c κs = search needs
+enum-told-2 : tie.Need-enum-told-2
+enum-told-2 c = search needs
 
-arrival-verdict-requires : tie.Need-arrival-verdict-requires
-arrival-verdict-requires c κs = search needs
+enum-known-outcome : tie.Need-enum-known-outcome
+enum-known-outcome c = search needs
 
 returns : tie.Need-returns
-returns c =
-    let e = c .before .before .before .receive .ensures in
-    record { refusal = c .arrival-verdict .ensures ∙ outcome-check _ _ _ (e .0); device = e .1 .0 }
+unfolding unheard
+returns c = rw (c .enum-told .given .1)
+
+returns-2 : tie.Need-returns-2
+unfolding unheard
+returns-2 c = rw (c .enum-told2 .given .1)
+
+returns-3 : tie.Need-returns-3
+unfolding unheard
+returns-3 c = rw (c .before .outcome .given .1)
 
 pub unheard-spec : {M : Type 1} → statement M
 unheard-spec =
-    tie.close (tie.spec slice-aggregate-receive receive-requires arrival-verdict-requires returns)
+    tie.close (tie.spec enum-told enum-told-2 enum-known-outcome returns returns-2 returns-3)
