@@ -126,8 +126,8 @@ fn kind_reply(
     }
 }
 
-// The answer is written first, so that no second unit is kept beside the one that came; the fault is looked at twice, for the answer and for the
-// command.
+// The answer is written first, and not by `send`, which would be given both units: so no second unit is kept beside the one that came. The fault is looked at
+// twice, for the answer and for the command.
 fn telecommand_reply(
     device: Device,
     store: usize,

@@ -13,7 +13,7 @@ use device_rules::Device;
 use device_rules::Fault;
 use device_rules::Transfer;
 
-// The unit after a command, while a store of so many bytes is lent: carried out, unless it has a fault.
+// The unit after a command, which is carried out unless it has a fault; a store of so many bytes is lent.
 pub fn after_command(device: Device, store: usize, id: u8, payload: &[u8]) -> Device
     ensures { λ r. ⌜ r ≡ afterCommand device id (now (payload .entry)) (commandFault device store id (now (payload .entry))) ⌝ }
 {

@@ -1,5 +1,5 @@
 -- What calls make one after the other: a call that passes goes on with the next, and one that is refused ends them. Each part of a round
--- is then its first call in front of the rest.
+-- is then its first call in front of the rest, and the arrivals of each fate stand in front of the sender's answer call.
 use Prim.Native.Nat.{ℕ}
 use mathlib.Core.Bool.{true, false}
 use mathlib.Core.List.{List, [], _∷_}
@@ -28,7 +28,7 @@ use Rattle.round_rules.specs.declared.Fate.the-variants.{Delivered, RequestLost
 use Rattle.round_rules.specs.declared.Round.{Round}
 use Rattle.sender_rules.specs.declared.Sender.{Sender}
 use Rattle.upload_round.specs.declared.Rounded.{Rounded}
-use Rattle.upload_round.specs.Ends.{asking, Ends, Requested, Exchanged, replyTo, Heard, Stopped, Arrived, unheard, isRefused}
+use Rattle.upload_round.specs.Ends.{asking, Ends, Requested, Exchanged, Heard, Stopped, Arrived, unheard, isRefused}
 use Rattle.upload_round.proofs.Results.{answered, was-silent, was-refused, outcome-passes, refused-answer, refused-silent, unheard-answer, unheard-silent, unheard-refused}
 
 module _ (r : Rounded) (store file : List ℕ) (w : World Sender) (c : Call) (h : List Call) where
@@ -50,6 +50,10 @@ last-call r file w b h = by (hear (w .requester) file b) refl
     by : (x : Answer Sender Unit) → hear (w .requester) file b ≡ x → Ends r (w .store) file w (hears shared b ∷ [])
     by (refused n) e = record { refusal = rw e (rw e at (h .refusal)); device = rw e (h .device); sender = rw e (rw e at (h .sender)); store = rw e }
     by (given s u) e = record { refusal = rw e (rw e at (h .refusal)); device = rw e (h .device); sender = rw e (rw e at (h .sender)); store = rw e }
+
+-- The unit's answer to a request.
+abbrev replyTo : Device → List ℕ → List ℕ → Answer Reply (List ℕ)
+replyTo d store request = within output (receive d (length store) request)
 
 -- The exchange of a request that arrives.
 module _ (r : Rounded) (d : Device) (store : List ℕ) (s : Sender) (file rq : List ℕ) where

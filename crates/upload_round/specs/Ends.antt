@@ -4,16 +4,15 @@ use mathlib.Core.Bool.{Bool, true, false}
 use mathlib.Core.List.{List, []}
 use mathlib.Core.Path.{_≡_}
 use lib.ListN.{length, take}
-use Rattle.message_rules.specs.Answer.{Answer, within, verdictResult}
+use Rattle.message_rules.specs.Answer.{verdictResult}
 use Rattle.message_rules.specs.declared.Refusal.{Refusal}
 use Rattle.message_rules.specs.declared.Verdict.the-variants.{Refused}
-use Rattle.device_rules.specs.Receive.{Reply, receive}
 use Rattle.device_rules.specs.declared.Device.{Device}
 use Rattle.device_rules.specs.declared.Outcome.{Outcome}
 use Rattle.device_rules.specs.declared.Outcome.the-variants as Outcome·of
 use Rattle.device_rules.specs.declared.Received.{Received}
 use Rattle.round_rules.specs.Rounds.{nothingSent, made, firstRefusal}
-use Rattle.round_rules.specs.Schedule.{output, exchange, requested}
+use Rattle.round_rules.specs.Schedule.{exchange, requested}
 use Rattle.round_rules.specs.World.{World, Call, requesterOr, answerCheck}
 use Rattle.round_rules.specs.declared.Fate.{Fate}
 use Rattle.sender_rules.specs.Hearing.{hear}
@@ -40,10 +39,6 @@ Requested r d s f file store = let w = nothingSent d store s in Ends r store fil
 abbrev pub Exchanged : Rounded → Device → Sender → Fate → List ℕ → List ℕ → List ℕ → Type 0
 Exchanged r d s f file store request = let w = asking d store s request in Ends r store file w (exchange (sending file) w f)
 
--- The unit's answer to a request.
-abbrev pub replyTo : Device → List ℕ → List ℕ → Answer Reply (List ℕ)
-replyTo d store request = within output (receive d (length store) request)
-
 -- After the sender's answer call,
 pub record Heard (r : Rounded) (d : Device) (s : Sender) (file answer : List ℕ) : Type 0 where
   pub refusal : verdictResult (r .verdict) ≡ answerCheck (hear s file answer)
@@ -56,8 +51,8 @@ pub record Stopped (r : Rounded) (d : Device) (s : Sender) (f : Refusal) : Type 
   pub sender : r .sender ≡ s
   pub verdict : r .verdict ≡ Refused f
 
--- After the arrivals of a request, `left` being what the answer's array holds then: the exchange is over once the sender has heard the answer there, or none
--- where the unit is silent, or once the call is refused.
+-- After the arrivals of a request, `left` being what the answer's array holds then. Whoever goes on as the outcome says has made the exchange of this fate: the
+-- sender hears the answer at the array's start, or no bytes where none comes back, or the round ends where the call was refused.
 pub record Arrived (r : Received) (left : List ℕ) (d : Device) (f : Fate) (store request : List ℕ) : Type 0 where
   pub answer : (n : ℕ) → r .outcome ≡ Outcome·of.Answer n → n ≤ length left
   pub heard : (n : ℕ) → r .outcome ≡ Outcome·of.Answer n → (z : Rounded) (s : Sender) (file : List ℕ) → Heard z (r .device) s file (take n left) → Exchanged z d s f file store request

@@ -1,4 +1,4 @@
-// The exchange of a round. Request and answers go through arrays of 522 bytes, which every message of every link fits.
+// The exchange of a round. Request and answer go through an array of 522 bytes each, which every message of every link fits.
 ghost use mathlib.Core.Path.{_≡_};
 ghost use lib.ListN.{length};
 ghost use Rattle.round_rules.specs.Schedule.{output};
@@ -58,7 +58,8 @@ fn sent(
     }
 }
 
-// The arrivals of a request at the unit: none, one or two. The unit afterwards, and what the sender hears of its answer, which goes to the start of answer.
+// The arrivals of a request at the unit: none, one or two. Gives the unit afterwards and what comes back to the sender: an answer, at the start of answer,
+// nothing, or a refusal.
 fn arrivals(device: Device, fate: Fate, store: &[u8], request: &[u8], answer: &mut [u8]) -> Received
     requires { ⌜ length (now answer) ≡ length output ⌝ }
     ensures { λ r. ⌜ Arrived r (now (answer .exit)) device fate (now (store .entry)) (now (request .entry)) ⌝ }
@@ -124,7 +125,7 @@ fn is_refused(outcome: Outcome) -> bool
     }
 }
 
-// The sender's answer call, with the bytes that it hears, none where the request or its answer was lost.
+// The sender's answer call, with the bytes that it hears, none where the request or its answer was lost or the unit gave none.
 fn heard(device: Device, sender: Sender, file: &[u8], answer: &[u8]) -> Rounded
     ensures { λ r. ⌜ Heard r device sender (now (file .entry)) (now (answer .entry)) ⌝ }
 {

@@ -37,6 +37,7 @@ pub fn round(device: Device, sender: Sender, round: Round, file: &[u8], store: &
     let verdict = stepped.verdict;
     match verdict {
         Verdict::Passed => exchange::requested(unit, sender, fate, file, store),
+        // Made in place: a function that is given the unit would copy it.
         Verdict::Refused(refusal) => Rounded {
             device: unit,
             sender,
