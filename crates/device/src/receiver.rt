@@ -159,6 +159,7 @@ fn command_answer(device: Device, request: Message, fault: Fault) -> Message
 {
     match fault {
         Fault::None => answer_to(device, request, Kind::TelecommandAck, 0, 0),
+        Fault::Repeat => answer_to(device, request, Kind::TelecommandAck, 0, 0),
         Fault::Nack(error, index) => {
             answer_to(device, request, Kind::TelecommandNack, error, index)
         }

@@ -12,6 +12,7 @@ ghost use Rattle.device_rules.specs.Commands.{transferDone, commandDone, afterC
 use device_rules::Device;
 use device_rules::Fault;
 use device_rules::Transfer;
+use file_rules::SetupAnswer;
 
 // The unit after a command, which is carried out unless it has a fault; a store of so many bytes is lent.
 pub fn after_command(device: Device, store: usize, id: u8, payload: &[u8]) -> Device
@@ -19,13 +20,14 @@ pub fn after_command(device: Device, store: usize, id: u8, payload: &[u8]) -> De
 {
     match device_faults::command_fault(device, store, id, payload) {
         Fault::None => command_done(device, id, payload),
+        Fault::Repeat => device,
         Fault::Nack(_, _) => device,
     }
 }
 
 // The unit after a command without a fault: what is not the transfer's stays.
 fn command_done(device: Device, id: u8, payload: &[u8]) -> Device
-    requires { ⌜ (id ≡ 20 → length (now payload) ≡ 4) × (id ≡ 22 → length (now payload) ≤ 256) ⌝ }
+    requires { ⌜ (id ≡ 22 → length (now payload) ≤ 256) ⌝ }
     ensures { λ r. ⌜ r ≡ commandDone device id (now (payload .entry)) ⌝ }
 {
     let transfer = device.transfer;
@@ -37,16 +39,14 @@ fn command_done(device: Device, id: u8, payload: &[u8]) -> Device
 
 // The transfer after it, by its ID.
 fn transfer_done(transfer: Transfer, id: u8, payload: &[u8]) -> Transfer
-    requires { ⌜ (id ≡ 20 → length (now payload) ≡ 4) × (id ≡ 22 → length (now payload) ≤ 256) ⌝ }
+    requires { ⌜ (id ≡ 22 → length (now payload) ≤ 256) ⌝ }
     ensures { λ r. ⌜ r ≡ transferDone transfer id (now (payload .entry)) ⌝ }
 {
     match id {
-        20 => setup::new_transfer(little_endian::u32_from_bytes(
-            payload[0],
-            payload[1],
-            payload[2],
-            payload[3],
-        )),
+        20 => match file_setup::read(payload) {
+            SetupAnswer::Setup(size, number) => setup::new_transfer(size, number),
+            SetupAnswer::WrongLength => transfer,
+        },
         21 => take::take_done(transfer),
         22 => frame::frame_done(transfer, payload),
         _ => device_state::no_transfer(),

@@ -1,11 +1,12 @@
-// Setup: a new transfer, of a file of this size.
+// Setup: a new transfer, of a file of the size that it says and for its job.
 ghost use mathlib.Core.Path.{_≡_};
 ghost use Rattle.device_rules.specs.Commands.{newTransfer};
 use device_rules::Phase;
 use device_rules::Transfer;
+use file_rules::Job;
 
-pub(crate) fn new_transfer(size: u32) -> Transfer
-    ensures { λ r. ⌜ r ≡ newTransfer size ⌝ }
+pub(crate) fn new_transfer(size: u32, number: u32) -> Transfer
+    ensures { λ r. ⌜ r ≡ newTransfer size number ⌝ }
 {
     Transfer {
         phase: Phase::Open,
@@ -15,5 +16,6 @@ pub(crate) fn new_transfer(size: u32) -> Transfer
         pending: false,
         size,
         stored: 0,
+        job: Job::Number(number),
     }
 }

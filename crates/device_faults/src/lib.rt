@@ -16,7 +16,7 @@ pub fn command_fault(device: Device, store: usize, id: u8, payload: &[u8]) -> Fa
 {
     let transfer = device.transfer;
     match id {
-        20 => setup::setup_fault(transfer, store, payload),
+        20 => setup::setup_fault(device, store, payload),
         21 => take::take_fault(transfer, payload),
         22 => frame::frame_fault(transfer, payload),
         23 => cancel::cancel_fault(payload),

@@ -1,6 +1,6 @@
 -- The order of the unit's tests and what each looks at, for any unit: each law computes the table of Faults from what it supposes.
 use Prim.Native.Nat.{ℕ, _+_, _*_, _-_, _%_, _≤_, _<_}
-use mathlib.Core.Bool.{Bool, true, false, cond, not, _&&_, _||_, and-false, or-true}
+use mathlib.Core.Bool.{Bool, true, false, cond, _&&_, and-false, or-true}
 use mathlib.Core.List.{List, [], _∷_}
 use mathlib.Core.Path.{_≡_, refl, subst}
 use native.Mathlib.Omega.{arith}
@@ -9,17 +9,24 @@ use lib.Dec.{ltb, eqb}
 use lib.ListN.{length}
 use Rattle.little_endian_rules.specs.LittleEndian.{fromBytes}
 use Rattle.file_rules.specs.File.{sizeLegal}
-use Rattle.device_rules.specs.Device.{isIdle, isOpen, bufferedFrame}
-use Rattle.device_rules.specs.Commands.{newTransfer, transferDone, commandDone}
-use Rattle.device_rules.specs.Faults.{fault, setupFault, isLastStored, isOutOfSequence, takeFault, frameFault, cancelFault, commandFault}
+use Rattle.file_rules.specs.Setup.{setupRead, isJob}
+use Rattle.file_rules.specs.declared.Job.the-variants as Job·of
+use Rattle.file_rules.specs.declared.Job.the-variants.{Number}
+use Rattle.file_rules.specs.declared.SetupAnswer.{SetupAnswer}
+use Rattle.file_rules.specs.declared.SetupAnswer.the-variants.{Setup, WrongLength}
+use Rattle.device_rules.specs.Device.{isIdle, isOpen, bufferedFrame, emptyBuffer, noTransfer, withTransfer}
+use Rattle.device_rules.specs.Commands.{newTransfer, setupDone, transferDone, commandDone}
+use Rattle.device_rules.specs.Faults.{fault, isRepeat, setupFault, isLastStored, isOutOfSequence, takeFault, frameFault, cancelFault, commandFault}
 use Rattle.device_rules.specs.declared.Device.{Device}
+use Rattle.device_rules.specs.declared.Transfer.{Transfer}
 use Rattle.device_rules.specs.declared.Phase.the-variants as Phase·of
 use Rattle.device_rules.specs.declared.Fault.{Fault}
-use Rattle.device_rules.specs.declared.Fault.the-variants.{None, Nack}
+use Rattle.device_rules.specs.declared.Fault.the-variants.{None, Repeat, Nack}
 
 -- An index other than 0 stands in every nack 3 of take frame, and nowhere else.
 abbrev IndexFits : Bool → Fault → Type 0
 IndexFits take None = Unit
+IndexFits take Repeat = Unit
 IndexFits take (Nack e i) = ltb 0 i ≡ (take && eqb e 3)
 
 row : (take : Bool) (e i : ℕ) (b : Bool) (rest : Fault) → IndexFits take (Nack e i) → IndexFits take rest → IndexFits take (fault e i b rest)
@@ -31,45 +38,101 @@ one-of : (take b : Bool) (f g : Fault) → IndexFits take f → IndexFits take g
 one-of take true f g one other = one
 one-of take false f g one other = other
 
--- The size in a setup: "size, 4 bytes", each of which counts.
-module _ (a b c e : ℕ) where
-  abbrev size : ℕ
-  size = a + 256 * b + 65536 * c + 16777216 * e
+-- Setup: "2 length", whatever the unit is: four bytes, as before document 02, too.
+pub setup-length : (d : Device) (store : ℕ) (p : List ℕ) → (length p ≡ 8 → ⊥) → commandFault d store 20 p ≡ Nack 2 0
+unfolding commandFault setupFault setupRead
+setup-length d store p other = simp (ne-eqb (length p) 8 other)
 
-  module _ (d : Device) where
-    pub setup-size : commandDone d 20 (a ∷ b ∷ c ∷ e ∷ []) .transfer .size ≡ size
-    unfolding commandDone transferDone newTransfer fromBytes
-    setup-size = omega arith
+-- What a setup of eight bytes says: "size then job number", and each byte counts.
+module _ (a b c e f g h i : ℕ) where
+  abbrev payload : List ℕ
+  payload = a ∷ b ∷ c ∷ e ∷ f ∷ g ∷ h ∷ i ∷ []
 
-    -- "6 pending", whatever the phase and the size are;
-    pub setup-pending : (store : ℕ) → d .transfer .pending ≡ true → commandFault d store 20 (a ∷ b ∷ c ∷ e ∷ []) ≡ Nack 6 0
-    unfolding commandFault setupFault fault
-    setup-pending store pending = simp pending
+  abbrev size-said : ℕ
+  size-said = a + 256 * b + 65536 * c + 16777216 * e
 
-    -- "7 open", whatever the size is;
-    pub setup-open : (store : ℕ) → d .transfer .pending ≡ false → d .transfer .phase ≡ Phase·of.Open → commandFault d store 20 (a ∷ b ∷ c ∷ e ∷ []) ≡ Nack 7 0
-    unfolding commandFault setupFault fault
-    setup-open store still begun = simp (still, begun)
+  abbrev number-said : ℕ
+  number-said = f + 256 * g + 65536 * h + 16777216 * i
 
-    module _ (store : ℕ) (still : d .transfer .pending ≡ false) (ended : isOpen (d .transfer .phase) ≡ false) where
-      -- "3 size 0, above the store or above 16,776,960": the whole number is that, however large the store is,
-      pub setup-illegal : sizeLegal size ≡ false → commandFault d store 20 (a ∷ b ∷ c ∷ e ∷ []) ≡ Nack 3 0
-      unfolding commandFault setupFault fault fromBytes
-      setup-illegal other =
-          let whole : fromBytes (a ∷ b ∷ c ∷ e ∷ []) ≡ size = omega arith in
-          simp (still, ended, whole, other)
+  pub setup-says : setupRead payload ≡ Setup size-said number-said
+  unfolding setupRead fromBytes
+  setup-says =
+      let size : fromBytes (a ∷ b ∷ c ∷ e ∷ []) ≡ size-said = omega arith in
+      let number : fromBytes (f ∷ g ∷ h ∷ i ∷ []) ≡ number-said = omega arith in
+      rw (size, number)
 
-      -- or it is above the store;
-      pub setup-above : store < size → commandFault d store 20 (a ∷ b ∷ c ∷ e ∷ []) ≡ Nack 3 0
-      unfolding commandFault setupFault fault fromBytes
-      setup-above h = simp (still, ended, lt-ltb store (fromBytes (a ∷ b ∷ c ∷ e ∷ [])) (omega arith), or-true)
+module _ (size number : ℕ) where
+  -- It is judged by them,
+  pub setup-judged : (d : Device) (store : ℕ) (p : List ℕ) → setupRead p ≡ Setup size number → commandFault d store 20 p ≡ setupFault d store (Setup size number)
+  unfolding commandFault
+  setup-judged d store p says = rw says
 
-      -- else it is taken, by an idle unit and by a finished one.
-      pub setup-fits : sizeLegal size ≡ true → size ≤ store → commandFault d store 20 (a ∷ b ∷ c ∷ e ∷ []) ≡ None
-      unfolding commandFault setupFault fault fromBytes
-      setup-fits legal h =
-          let whole : fromBytes (a ∷ b ∷ c ∷ e ∷ []) ≡ size = omega arith in
-          simp (still, ended, whole, legal, le-ltb store size h)
+  -- and carried out it opens a transfer of that size for that job, with an empty buffer.
+  pub setup-opens : (d : Device) (p : List ℕ) → setupRead p ≡ Setup size number
+      → let t = commandDone d 20 p .transfer in
+      (t .phase ≡ Phase·of.Open) × (t .size ≡ size) × (t .job ≡ Number number) × (t .buffer ≡ emptyBuffer) × (t .buffered ≡ 0)
+  unfolding commandDone transferDone setupDone newTransfer
+  setup-opens d p says = rw says (refl, refl, refl, refl, refl)
+
+  module _ (d : Device) (store : ℕ) where
+    abbrev t : Transfer
+    t = d .transfer
+
+    abbrev judged : Fault
+    judged = setupFault d store (Setup size number)
+
+    -- "Ack for the repeat" of the open job's number and size, whether or not a frame is pending, whatever the phase and the store are;
+    pub setup-repeats : t .job ≡ Number number → t .size ≡ size → judged ≡ Repeat
+    unfolding setupFault isRepeat
+    setup-repeats same whole = simp (same, whole, eq-eqb number number refl, eq-eqb size size refl)
+
+    -- with another size, or where another job or none is open, it is no repeat.
+    pub setup-resized : (size ≡ t .size → ⊥) → isRepeat t size number ≡ false
+    unfolding isRepeat
+    setup-resized other = simp (ne-eqb size (t .size) other, and-false (isJob (t .job) number))
+
+    pub setup-unnamed : isJob (t .job) number ≡ false → isRepeat t size number ≡ false
+    unfolding isRepeat
+    setup-unnamed other = rw other
+
+    module _ (new : isRepeat t size number ≡ false) where
+      -- "6 pending", whatever the phase, the last finished job and the size are;
+      pub setup-pending : t .pending ≡ true → judged ≡ Nack 6 0
+      unfolding setupFault fault
+      setup-pending pending = simp (new, pending)
+
+      module _ (still : t .pending ≡ false) where
+        -- "7 open", whatever the size is;
+        pub setup-open : t .phase ≡ Phase·of.Open → judged ≡ Nack 7 0
+        unfolding setupFault fault
+        setup-open begun = simp (new, still, begun)
+
+        module _ (ended : isOpen (t .phase) ≡ false) where
+          -- "7 finished job again", whatever the size is;
+          pub setup-finished : d .finished ≡ Number number → judged ≡ Nack 7 0
+          unfolding setupFault fault
+          setup-finished same = simp (new, still, ended, same, eq-eqb number number refl)
+
+          module _ (another : isJob (d .finished) number ≡ false) where
+            -- "3 size 0, above the store or above 16,776,960": the whole number is that, however large the store is,
+            pub setup-illegal : sizeLegal size ≡ false → judged ≡ Nack 3 0
+            unfolding setupFault fault
+            setup-illegal other = simp (new, still, ended, another, other)
+
+            -- or it is above the store;
+            pub setup-above : store < size → judged ≡ Nack 3 0
+            unfolding setupFault fault
+            setup-above above = simp (new, still, ended, another, lt-ltb store size above, or-true)
+
+            -- else it is taken, by an idle unit and by a finished one.
+            pub setup-fits : sizeLegal size ≡ true → size ≤ store → judged ≡ None
+            unfolding setupFault fault
+            setup-fits legal fits = simp (new, still, ended, another, legal, le-ltb store size fits)
+
+-- "Cancel forgets the open job only": none is open then, and the last finished one stays, whatever the unit is.
+pub cancel-forgets : (d : Device) (p : List ℕ) → (commandDone d 23 p .transfer .job ≡ Job·of.None) × (commandDone d 23 p .finished ≡ d .finished)
+unfolding commandDone transferDone noTransfer
+cancel-forgets d p = (refl, refl)
 
 -- Take frame: "2 length", whatever the unit is.
 pub take-length : (d : Device) (store : ℕ) (p : List ℕ) → (length p ≡ 2 → ⊥) → commandFault d store 21 p ≡ Nack 2 0
@@ -139,24 +202,33 @@ module _ (d : Device) (store : ℕ) (still : d .transfer .pending ≡ false) (p 
       take-above h = rw (take-next, ne-eqb buffered 0 (omega arith), lt-ltb remains buffered h)
 
 -- "In this transfer": after a setup every number but the first is 3, whatever the transfer before it had stored.
-pub take-anew : (d : Device) (store : ℕ) (q p : List ℕ) → length p ≡ 2 → (fromBytes p ≡ 0 → ⊥) → commandFault (commandDone d 20 q) store 21 p ≡ Nack 3 3
-unfolding commandDone transferDone newTransfer
-take-anew d store q p two other = by (eqb (fromBytes p) 0xFFFF) refl
+pub take-anew : (d : Device) (store : ℕ) (q p : List ℕ) (size number : ℕ) → setupRead q ≡ Setup size number → length p ≡ 2 → (fromBytes p ≡ 0 → ⊥)
+    → commandFault (commandDone d 20 q) store 21 p ≡ Nack 3 3
+unfolding commandDone transferDone setupDone newTransfer
+take-anew d store q p size number says two other = rw says (by (eqb (fromBytes p) 0xFFFF) refl)
   where
-    by : (b : Bool) → eqb (fromBytes p) 0xFFFF ≡ b → commandFault (commandDone d 20 q) store 21 p ≡ Nack 3 3
-    by true e = take-last (commandDone d 20 q) store refl p two refl (eqb-true (fromBytes p) 0xFFFF e)
-    by false e = take-other (commandDone d 20 q) store refl p two refl (eqb-false (fromBytes p) 0xFFFF e) other
+    opened : Device
+    opened = withTransfer d (newTransfer size number)
+
+    by : (b : Bool) → eqb (fromBytes p) 0xFFFF ≡ b → commandFault opened store 21 p ≡ Nack 3 3
+    by true e = take-last opened store refl p two refl (eqb-true (fromBytes p) 0xFFFF e)
+    by false e = take-other opened store refl p two refl (eqb-false (fromBytes p) 0xFFFF e) other
+
+setup-index : (d : Device) (store : ℕ) (x : SetupAnswer) → IndexFits false (setupFault d store x)
+unfolding setupFault
+setup-index d store WrongLength = refl
+setup-index d store (Setup size number) = one-of false (isRepeat (d .transfer) size number) Repeat _ tt (row false _ _ _ _ refl (row false _ _ _ _ refl (row false _ _ _ _ refl (row false _ _ _ _ refl tt))))
 
 -- "All other nacks keep index 0": row by row of the table.
 pub index-told : (d : Device) (store id : ℕ) (p : List ℕ) (e i : ℕ) → commandFault d store id p ≡ Nack e i → ltb 0 i ≡ (eqb id 21 && eqb e 3)
-unfolding commandFault setupFault takeFault frameFault cancelFault
+unfolding commandFault takeFault frameFault cancelFault
 index-told d store id p e i h = subst (IndexFits (eqb id 21)) h (by (eqb id 21) refl)
   where
     by : (b : Bool) → eqb id 21 ≡ b → IndexFits (eqb id 21) (commandFault d store id p)
     by true is = rw (eqb-true id 21 is) (row true _ _ _ _ refl (row true _ _ _ _ refl (row true _ _ _ _ refl (row true _ _ _ _ refl (row true _ _ _ _ refl (row true _ _ _ _ refl (row true _ _ _ _ refl (row true _ _ _ _ refl tt))))))))
     by false other =
         rw other
-        (one-of false (eqb id 20) _ _ (row false _ _ _ _ refl (row false _ _ _ _ refl (row false _ _ _ _ refl (row false _ _ _ _ refl tt))))
+        (one-of false (eqb id 20) _ _ (setup-index d store (setupRead p))
         (one-of false (eqb id 22) _ _ (row false _ _ _ _ refl (row false _ _ _ _ refl (row false _ _ _ _ refl tt)))
         (one-of false (eqb id 23) _ _ (row false _ _ _ _ refl tt)
         refl)))

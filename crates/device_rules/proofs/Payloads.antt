@@ -10,8 +10,3 @@ two-bytes [] h = absurd (omega arith)
 two-bytes (a ∷ []) h = absurd (omega arith)
 two-bytes (a ∷ b ∷ []) h = refl
 two-bytes (a ∷ b ∷ x ∷ p) h = absurd (omega arith)
-
-pub four-bytes : (p : List ℕ) → length p ≡ 4 → getD p 0 0 ∷ getD p 1 0 ∷ getD p 2 0 ∷ getD p 3 0 ∷ [] ≡ p
-four-bytes [] h = absurd (omega arith)
-four-bytes (a ∷ []) h = absurd (omega arith)
-four-bytes (a ∷ b ∷ p) h = rw (two-bytes p (omega arith))

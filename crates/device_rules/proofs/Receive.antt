@@ -18,7 +18,7 @@ use Rattle.link_rules.proofs.Laws.{within-given}
 use Rattle.device_rules.specs.declared.Addressing.{Addressing}
 use Rattle.device_rules.specs.declared.Addressing.the-variants.{Own, Broadcast, Other}
 use Rattle.device_rules.specs.declared.Device.{Device}
-use Rattle.device_rules.specs.declared.Fault.the-variants.{None, Nack}
+use Rattle.device_rules.specs.declared.Fault.the-variants.{None, Repeat, Nack}
 use Rattle.device_rules.specs.Answers.{afterReceive}
 use Rattle.device_rules.specs.Commands.{commandDone, afterCommand}
 use Rattle.device_rules.specs.Faults.{commandFault}
@@ -99,6 +99,11 @@ module _ (d : Device) (store : ℕ) (b : List ℕ) (m : Message) (p : List ℕ) 
     pub broadcast-nacked : m .kind ≡ Telecommand → (e i : ℕ) → commandFault d store (m .id) p ≡ Nack e i → receive d store b ≡ silence d
     unfolding addressedReply afterBroadcast afterCommand
     broadcast-nacked k e i h = addressed-replied Broadcast broadcast ∙ simp (k, h)
+
+    -- and as a setup that repeats the open job's neither,
+    pub broadcast-repeated : m .kind ≡ Telecommand → commandFault d store (m .id) p ≡ Repeat → receive d store b ≡ silence d
+    unfolding addressedReply afterBroadcast afterCommand
+    broadcast-repeated k h = addressed-replied Broadcast broadcast ∙ simp (k, h)
 
     -- "and a broadcast telemetry request is passed over", as every other kind is.
     pub broadcast-passed : isTelecommand (m .kind) ≡ false → receive d store b ≡ silence d

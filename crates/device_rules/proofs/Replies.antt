@@ -11,7 +11,7 @@ use Rattle.message_rules.specs.declared.Message.{Message}
 use Rattle.link_rules.specs.Link.{linkWrite}
 use Rattle.link_rules.specs.declared.Link.{Link}
 use Rattle.device_rules.specs.declared.Device.{Device}
-use Rattle.device_rules.specs.declared.Fault.the-variants.{None, Nack}
+use Rattle.device_rules.specs.declared.Fault.the-variants.{None, Repeat, Nack}
 use Rattle.device_rules.specs.Commands.{commandDone, afterCommand}
 use Rattle.device_rules.specs.Faults.{commandFault}
 use Rattle.device_rules.specs.Receive.{answers, answerSource, answerTo, infoBytes, silence, commandAnswer, commandReply, telecommandReply, telemetryReply, kindReply}
@@ -50,6 +50,12 @@ module _ (d : Device) (m : Message) where
       → telecommandReply d store m p ≡ about (answers (commandDone d (m .id) p)) (linkWrite (d .link) (answer TelecommandAck 0 0) [])
   unfolding commandReply afterCommand commandAnswer answerTo
   command-acked store p h = rw h
+
+  -- "A setup that repeats the open job's number and size is acked and changes nothing."
+  pub repeat-acked : (store : ℕ) (p : List ℕ) → commandFault d store (m .id) p ≡ Repeat
+      → telecommandReply d store m p ≡ about (answers d) (linkWrite (d .link) (answer TelecommandAck 0 0) [])
+  unfolding commandReply afterCommand commandAnswer answerTo
+  repeat-acked store p h = rw h
 
   -- A nack tells error byte and index of the fault, and "a nack changes nothing".
   pub command-nacked : (store : ℕ) (p : List ℕ) (e i : ℕ) → commandFault d store (m .id) p ≡ Nack e i

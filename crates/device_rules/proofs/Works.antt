@@ -16,8 +16,9 @@ use Rattle.message_rules.specs.declared.Verdict.{Verdict}
 use Rattle.message_rules.specs.declared.Verdict.the-variants.{Passed, Refused}
 use Rattle.message_rules.proofs.Answers.{long-enough}
 use Rattle.message_rules.proofs.Checks.{both-true}
-use Rattle.device_rules.specs.Device.{bufferedFrame, withTransfer}
-use Rattle.device_rules.specs.Work.{frameStored, hasRoom, work, withoutBytes, afterWork, storeAfter}
+use Rattle.file_rules.specs.declared.Job.the-variants.{None, Number}
+use Rattle.device_rules.specs.Device.{bufferedFrame}
+use Rattle.device_rules.specs.Work.{isLastFrame, frameStored, finishedJob, unitStored, hasRoom, work, withoutBytes, afterWork, storeAfter}
 use Rattle.device_rules.specs.declared.Device.{Device}
 
 -- "The work step stores a pending frame after what is stored": the store then holds one frame more and is else as it was, and the unit waits
@@ -39,12 +40,23 @@ seam at s f r h =
 
 pub frame-stored : (d : Device) (s : List ℕ) → let t = d .transfer in t .pending ≡ true → t .size ≤ length s → t .stored + length (bufferedFrame t) ≤ t .size
     → Stored d (afterWork d (work d (length s))) s (storeAfter d (work d (length s)) s)
-unfolding work hasRoom frameStored bufferedFrame afterWork storeAfter require after
+unfolding work hasRoom unitStored frameStored bufferedFrame afterWork storeAfter require after
 frame-stored d s pending long fits =
     let t = d .transfer in
     let parts = seam (t .stored) s (bufferedFrame t) (drop (t .stored + length (bufferedFrame t)) s) (omega arith) in
     rw (le-leb (t .size) (length s) long, le-leb (t .stored + length (bufferedFrame t)) (t .size) fits, pending)
     (record { count = refl; holds = parts .0; rest = parts .1; number = refl; emptied = refl; zeros = refl; waits = refl })
+
+-- Document 02, ticket 5: "Storing the last frame makes the open job the last finished one, and none is open then."
+module _ (d : Device) where
+  pub last-finishes : (n : ℕ) → d .transfer .job ≡ Number n → isLastFrame (d .transfer) ≡ true → (unitStored d .finished ≡ Number n) × (unitStored d .transfer .job ≡ None)
+  unfolding unitStored frameStored finishedJob
+  last-finishes n job last = rw (last, job) (refl, refl)
+
+  -- No other frame does.
+  pub earlier-keeps : isLastFrame (d .transfer) ≡ false → (unitStored d .finished ≡ d .finished) × (unitStored d .transfer .job ≡ d .transfer .job)
+  unfolding unitStored frameStored
+  earlier-keeps more = rw more (refl, refl)
 
 abbrev Gives : Device → List ℕ → Verdict → Device → List ℕ → Type 0
 Gives d s v d′ s′ =
@@ -52,7 +64,7 @@ Gives d s v d′ s′ =
 
 -- The step by its two tests.
 module _ (d : Device) (n : ℕ) where
-  rests : d .transfer .pending ≡ false → work d n ≡ given d []
+  pub rests : d .transfer .pending ≡ false → work d n ≡ given d []
   unfolding work
   rests h = rw h
 
@@ -60,7 +72,7 @@ module _ (d : Device) (n : ℕ) where
   unfolding work require after
   short h k = rw (k, h)
 
-  stores : d .transfer .pending ≡ true → hasRoom (d .transfer) n ≡ true → work d n ≡ given (withTransfer d (frameStored (d .transfer))) (bufferedFrame (d .transfer))
+  stores : d .transfer .pending ≡ true → hasRoom (d .transfer) n ≡ true → work d n ≡ given (unitStored d) (bufferedFrame (d .transfer))
   unfolding work require after
   stores h k = rw (k, h)
 
@@ -83,8 +95,8 @@ module _ (d : Device) (s : List ℕ) where
   -- A frame that goes after what is stored.
   pub stored-gives : (part : List ℕ) → d .transfer .pending ≡ true → hasRoom (d .transfer) (length s) ≡ true
       → part ≡ outputAfter (within (drop (d .transfer .stored) s) (written (bufferedFrame (d .transfer)))) (drop (d .transfer .stored) s)
-      → Gives d s Passed (withTransfer d (frameStored (d .transfer))) (take (d .transfer .stored) s ++ part)
-  unfolding valueResult withoutBytes afterWork storeAfter outputAfter
+      → Gives d s Passed (unitStored d) (take (d .transfer .stored) s ++ part)
+  unfolding valueResult withoutBytes afterWork storeAfter outputAfter unitStored
   stored-gives part h k left =
       let t = d .transfer in
       let fits : length (bufferedFrame t) ≤ length (drop (t .stored) s) = rw length-drop (omega (arith, room k)) in

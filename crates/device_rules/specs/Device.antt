@@ -5,6 +5,7 @@ use mathlib.Core.List.{List}
 use lib.Dec.{eqb}
 use lib.ListN.{take, replicate}
 use Rattle.message_rules.specs.Answer.{Answer, refused, given}
+use Rattle.file_rules.specs.declared.Job.the-variants.{None}
 use Rattle.link_rules.specs.declared.Link.{Link}
 use Rattle.device_rules.specs.declared.Device.{Device}
 use Rattle.device_rules.specs.declared.Transfer.{Transfer}
@@ -35,7 +36,7 @@ bufferedFrame t = take (t .buffered) (t .buffer)
 abbrev pub emptyBuffer : List ℕ
 emptyBuffer = replicate 256 0
 
--- No transfer: idle, frame number 0xFFFF, nothing in the buffer, nothing pending, nothing stored. So is a unit at first.
+-- No transfer: idle, frame number 0xFFFF, nothing in the buffer, nothing pending, nothing stored, no job open. So is a unit at first.
 unfoldable pub noTransfer : Transfer
 noTransfer =
     record {
@@ -46,15 +47,16 @@ noTransfer =
       pending = false;
       size = 0;
       stored = 0;
+      job = None;
     }
 
 -- A unit with this transfer for its own: whatever else it has stays.
 abbrev pub withTransfer : Device → Transfer → Device
-withTransfer d t = record { link = d .link; own = d .own; transfer = t }
+withTransfer d t = record { link = d .link; own = d .own; transfer = t; finished = d .finished }
 
--- A unit at first.
+-- A unit at first, which has finished no job.
 unfoldable pub newDevice : Link → ℕ → Device
-newDevice l own = record { link = l; own = own; transfer = noTransfer }
+newDevice l own = record { link = l; own = own; transfer = noTransfer; finished = None }
 
 -- "Making a unit with own address 0 is refused with 7 on every link."
 unfoldable pub make : Link → ℕ → Answer Device Unit

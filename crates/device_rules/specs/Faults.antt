@@ -6,26 +6,35 @@ use lib.Dec.{ltb, eqb}
 use lib.ListN.{length}
 use Rattle.little_endian_rules.specs.LittleEndian.{fromBytes}
 use Rattle.file_rules.specs.File.{sizeLegal}
+use Rattle.file_rules.specs.Setup.{setupRead, isJob}
+use Rattle.file_rules.specs.declared.SetupAnswer.{SetupAnswer}
+use Rattle.file_rules.specs.declared.SetupAnswer.the-variants.{Setup, WrongLength}
 use Rattle.device_rules.specs.Device.{isIdle, isOpen, isFinished, bufferedFrame}
 use Rattle.device_rules.specs.declared.Device.{Device}
 use Rattle.device_rules.specs.declared.Transfer.{Transfer}
 use Rattle.device_rules.specs.declared.Fault.{Fault}
-use Rattle.device_rules.specs.declared.Fault.the-variants.{None, Nack}
+use Rattle.device_rules.specs.declared.Fault.the-variants.{None, Repeat, Nack}
 
 -- One reason in front of those that follow it, with its error byte and its error index.
 unfoldable pub fault : ℕ → ℕ → Bool → Fault → Fault
 fault e i true rest = Nack e i
 fault e i false rest = rest
 
--- "20 setup | size, 4 bytes | 2 length; 6 pending; 7 open; 3 size 0, above the store or above 16,776,960." The store is the one lent to
--- the call, of this many bytes.
-unfoldable pub setupFault : Transfer → ℕ → List ℕ → Fault
-setupFault t store p =
-    fault 2 0 (not (eqb (length p) 4))
-    (fault 6 0 (t .pending)
-    (fault 7 0 (isOpen (t .phase))
-    (fault 3 0 (not (sizeLegal (fromBytes p)) || ltb store (fromBytes p))
-    None)))
+-- Document 02, ticket 5: "A setup that repeats the open job's number and size". The record's open job decides, whatever the phase is.
+unfoldable pub isRepeat : Transfer → ℕ → ℕ → Bool
+isRepeat t size number = isJob (t .job) number && eqb size (t .size)
+
+-- Document 02, ticket 5: "setup order becomes 2 length, ack for the repeat, 6 pending, 7 open, 7 finished job again, 3 size"; document 01: "3 size 0, above
+-- the store or above 16,776,960". The store is the one lent to the call, of this many bytes.
+unfoldable pub setupFault : Device → ℕ → SetupAnswer → Fault
+setupFault d store WrongLength = Nack 2 0
+setupFault d store (Setup size number) =
+    cond (isRepeat (d .transfer) size number) Repeat
+    (fault 6 0 (d .transfer .pending)
+    (fault 7 0 (isOpen (d .transfer .phase))
+    (fault 7 0 (isJob (d .finished) number)
+    (fault 3 0 (not (sizeLegal size) || ltb store size)
+    None))))
 
 -- Document 02, ticket 1: "the one last stored (in this transfer, never 0xFFFF)". It is the unit's number, which is 0xFFFF until this transfer
 -- has stored a frame.
@@ -67,7 +76,7 @@ cancelFault p = fault 2 0 (not (eqb (length p) 0)) None
 -- "Any other ID: error 1." "All other nacks keep index 0" (document 02, ticket 1).
 unfoldable pub commandFault : Device → ℕ → ℕ → List ℕ → Fault
 commandFault d store id p =
-    cond (eqb id 20) (setupFault (d .transfer) store p)
+    cond (eqb id 20) (setupFault d store (setupRead p))
     (cond (eqb id 21) (takeFault (d .transfer) p)
     (cond (eqb id 22) (frameFault (d .transfer) p)
     (cond (eqb id 23) (cancelFault p)

@@ -22,7 +22,7 @@ use Rattle.device_rules.specs.declared.Device.{Device}
 use Rattle.device_rules.specs.declared.Transfer.{Transfer}
 use Rattle.device_rules.specs.Faults.{commandFault}
 use Rattle.device_rules.specs.declared.Fault.{Fault}
-use Rattle.device_rules.specs.declared.Fault.the-variants.{None, Nack}
+use Rattle.device_rules.specs.declared.Fault.the-variants.{None, Repeat, Nack}
 use Rattle.device_rules.specs.Commands.{afterCommand}
 
 -- The unit after a call that was not refused: it answers, or it is silent, and either way it may have changed.
@@ -60,9 +60,10 @@ infoBytes t =
 abbrev pub silence : Device → Answer Reply (List ℕ)
 silence d = given (silent d) []
 
--- A nack with the fault, or an ack.
+-- A nack with the fault, or an ack, which a repeated setup gets too.
 unfoldable pub commandAnswer : Device → Message → Fault → Message
 commandAnswer d m None = answerTo d m Kind·of.TelecommandAck 0 0
+commandAnswer d m Repeat = answerTo d m Kind·of.TelecommandAck 0 0
 commandAnswer d m (Nack e i) = answerTo d m Kind·of.TelecommandNack e i
 
 -- The answer to a command, with the unit as the command leaves it.

@@ -3,6 +3,7 @@
 //
 // The rules are definitions of `specs/`: `Device` (the state, and a unit at first), `Faults` (why a command is not carried out), `Commands` (what
 // it does when it is), `Work` (the work step), `Receive` and `Answers` (bytes that arrive). Demand 3 is proved of these; the code stands above.
+use file_rules::Job;
 use link_rules::Link;
 use message_rules::Refusal;
 use message_rules::Verdict;
@@ -28,6 +29,8 @@ pub struct Transfer {
     pub size: u32,
     // How many bytes are counted as stored.
     pub stored: u32,
+    // Document 02's open job.
+    pub job: Job,
 }
 
 // Document 01's unit. It is called a device, since `Unit` is a type of the logic.
@@ -36,6 +39,8 @@ pub struct Device {
     // The unit's own address.
     pub own: u8,
     pub transfer: Transfer,
+    // Document 02's last finished job. It is no transfer's: setup and cancel leave it as it is.
+    pub finished: Job,
 }
 
 // How a message is addressed: to this unit, to every unit at once (document 02's broadcast), or to another one.
@@ -51,9 +56,11 @@ pub struct UnitAnswer {
     pub verdict: Verdict,
 }
 
-// Why a command is not carried out: none, or the error byte and the index of the nack.
+// Why a command is not carried out: for no reason, so that it is; since it is a setup that repeats the open job's, which is acked; or for the
+// error byte and the index of the nack.
 pub enum Fault {
     None,
+    Repeat,
     Nack(u8, u8),
 }
 

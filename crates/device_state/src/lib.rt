@@ -7,6 +7,7 @@ use device_rules::Device;
 use device_rules::Phase;
 use device_rules::Transfer;
 use device_rules::UnitAnswer;
+use file_rules::Job;
 use link_rules::Link;
 use message_rules::Refusal;
 use message_rules::Verdict;
@@ -34,6 +35,7 @@ pub fn no_transfer() -> Transfer
         pending: false,
         size: 0,
         stored: 0,
+        job: Job::None,
     }
 }
 
@@ -47,6 +49,7 @@ pub fn make(link: Link, own: u8) -> UnitAnswer
         link,
         own,
         transfer,
+        finished: Job::None,
     };
     if own == 0 {
         return UnitAnswer {

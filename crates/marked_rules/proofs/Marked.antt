@@ -12,6 +12,7 @@ use Rattle.can_rules.specs.Can as can·Can
 use Rattle.link_rules.specs.Link as link·Link
 use Rattle.file_rules.specs.File as file·File
 use Rattle.file_rules.specs.Checksum as file·Checksum
+use Rattle.file_rules.specs.Setup as file·Setup
 use Rattle.device_rules.specs.Device as device·Device
 use Rattle.device_rules.specs.Faults as device·Faults
 use Rattle.device_rules.specs.Commands as device·Commands
@@ -25,8 +26,8 @@ use Rattle.round_rules.specs.World as round·World
 use Rattle.round_rules.specs.Schedule as round·Schedule
 use Rattle.link_rules.specs.declared.Link.{Link}
 use Rattle.link_rules.specs.declared.Link.the-variants.{Uart, Rs485, Can, Csp}
-use Rattle.marked_rules.proofs.Setups.{Accepts, AcceptsBroadcast}
-use Rattle.marked_rules.specs.Cases.{setupBytes, opened, afterRounds, askedAgain, NothingLost, AnswerLost, cases, AllHold}
+use Rattle.marked_rules.proofs.Setups.{Accepts, AcceptsBroadcast, Finishes, Starts}
+use Rattle.marked_rules.specs.Cases.{setupOn, opened, afterRounds, allDelivered, askedAgain, NothingLost, AnswerLost, cases, AllHold}
 
 on-every : (P : Link → Type 0) → P Uart → P Rs485 → P Can → P Csp → (l : Link) → P l
 on-every P uart rs485 can csp Uart = uart
@@ -34,9 +35,9 @@ on-every P uart rs485 can csp Rs485 = rs485
 on-every P uart rs485 can csp Can = can
 on-every P uart rs485 can csp Csp = csp
 
--- All is computed under one list of definitions: the cases, and the setups that demand 3 begins with, which `Starts` cites.
-computed : AllHold cases × ((l : Link) → Accepts l) × AcceptsBroadcast
-unfolding setupBytes opened afterRounds askedAgain
+-- All is computed under one list of definitions: the cases, and the worlds that demand 3 begins with, which `Starts` cites.
+computed : AllHold cases × ((l : Link) → Accepts l) × AcceptsBroadcast × ((l : Link) → Finishes l) × ((l : Link) → Starts l)
+unfolding setupOn opened afterRounds allDelivered askedAgain
     little_endian·LittleEndian.fromBytes little_endian·LittleEndian.toBytes
     message·Answer.require message·Answer.after message·Answer.within message·Answer.about
     message·Kinds.inside message·Kinds.typeKind message·Kinds.errorCarried message·Kinds.indexCarried message·Kinds.carriedOn
@@ -55,15 +56,16 @@ unfolding setupBytes opened afterRounds askedAgain
     link·Link.linkRead link·Link.linkWrite link·Link.linkCarried
     file·File.sizeLegal file·File.frameCount file·File.fileFrame
     file·Checksum.sum file·Checksum.checksum
+    file·Setup.setupBytes file·Setup.setupRead
     device·Device.bufferedFrame device·Device.noTransfer device·Device.newDevice
-    device·Faults.fault device·Faults.setupFault device·Faults.isLastStored device·Faults.isOutOfSequence device·Faults.takeFault device·Faults.frameFault
+    device·Faults.fault device·Faults.isRepeat device·Faults.setupFault device·Faults.isLastStored device·Faults.isOutOfSequence device·Faults.takeFault device·Faults.frameFault
     device·Faults.commandFault
-    device·Commands.newTransfer device·Commands.takeDone device·Commands.frameDone device·Commands.transferDone device·Commands.commandDone
+    device·Commands.newTransfer device·Commands.setupDone device·Commands.takeDone device·Commands.frameDone device·Commands.transferDone device·Commands.commandDone
     device·Commands.afterCommand
     device·Receive.addressing device·Receive.answerSource device·Receive.answerTo device·Receive.infoBytes device·Receive.commandAnswer
     device·Receive.commandReply device·Receive.telemetryReply device·Receive.kindReply
     device·Receive.afterBroadcast device·Receive.addressedReply device·Receive.messageReply device·Receive.receive device·Answers.afterReceive
-    device·Work.frameStored device·Work.hasRoom device·Work.work device·Work.storeAfter device·Work.afterWork
+    device·Work.isLastFrame device·Work.frameStored device·Work.finishedJob device·Work.unitStored device·Work.hasRoom device·Work.work device·Work.storeAfter device·Work.afterWork
     sender·Sender.newSender sender·Sender.addressesLegal sender·Sender.start sender·Sender.requestPayload sender·Sender.requestMessage
     sender·Sender.sameFile sender·Sender.request sender·Sender.framesKnown
     sender·Hearing.fits sender·Hearing.takenError sender·Hearing.compared sender·Hearing.confirmed sender·Hearing.informed sender·Hearing.ackMeaning
@@ -77,7 +79,9 @@ computed =
     let p12 : (l : Link) → AnswerLost l = on-every AnswerLost (refl, refl, refl) (refl, refl, refl) (refl, refl, refl) (refl, refl, refl) in
     let setup : (l : Link) → Accepts l = on-every Accepts (refl, refl, refl, refl, refl, refl) (refl, refl, refl, refl, refl, refl) (refl, refl, refl, refl, refl, refl) (refl, refl, refl, refl, refl, refl) in
     let broadcast : AcceptsBroadcast = (refl, refl, refl, refl, refl, refl) in
-    ((refl, (refl, (refl, (refl, (refl, (refl, (refl, ((refl, refl), ((refl, refl), ((refl, refl), ((refl, refl), (refl, (refl, (refl, (p11, (p12, tt)))))))))))))))), setup, broadcast)
+    let next : (l : Link) → Finishes l = on-every Finishes (refl, refl, refl, refl, refl, refl, refl) (refl, refl, refl, refl, refl, refl, refl) (refl, refl, refl, refl, refl, refl, refl) (refl, refl, refl, refl, refl, refl, refl) in
+    let starts : (l : Link) → Starts l = on-every Starts (λ n. refl) (λ n. refl) (λ n. refl) (λ n. refl) in
+    ((refl, (refl, (refl, (refl, (refl, (refl, (refl, ((refl, refl), ((refl, refl), ((refl, refl), ((refl, refl), (refl, (refl, (refl, (p11, (p12, tt)))))))))))))))), setup, broadcast, next, starts)
 
 pub marked : AllHold cases
 marked = computed .0
@@ -87,3 +91,9 @@ setup-accepted = computed .1
 
 pub broadcast-accepted : AcceptsBroadcast
 broadcast-accepted = computed .2
+
+pub job-finished : (l : Link) → Finishes l
+job-finished = computed .3
+
+pub job-starts : (l : Link) → Starts l
+job-starts = computed .4

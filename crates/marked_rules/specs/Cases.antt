@@ -4,7 +4,7 @@ use mathlib.Core.Bool.{true}
 use mathlib.Core.List.{List, [], _∷_, _++_}
 use mathlib.Core.Path.{_≡_}
 use lib.ListN.{length, getD, take, replicate}
-use Rattle.little_endian_rules.specs.LittleEndian.{fromBytes, toBytes}
+use Rattle.little_endian_rules.specs.LittleEndian.{fromBytes}
 use Rattle.message_rules.specs.Answer.{refused, given, written}
 use Rattle.message_rules.specs.declared.ErrorByte.the-variants.{Told}
 use Rattle.message_rules.specs.declared.Kind.{Kind}
@@ -16,6 +16,8 @@ use Rattle.serial_rules.specs.Frames.{frameRead, frameWrite}
 use Rattle.serial_rules.specs.declared.SerialLink.the-variants.{Uart, Rs485}
 use Rattle.link_rules.specs.Link.{linkRead, linkWrite, linkCarried}
 use Rattle.link_rules.specs.declared.Link.{Link}
+use Rattle.file_rules.specs.Setup.{setupBytes}
+use Rattle.file_rules.specs.declared.Job.the-variants as Job·of
 use Rattle.device_rules.specs.Device.{newDevice}
 use Rattle.device_rules.specs.Answers.{afterReceive}
 use Rattle.device_rules.specs.Receive.{receive}
@@ -52,18 +54,18 @@ emptyStore = replicate 303 0xA5
 abbrev pub fullStore : List ℕ
 fullStore = file ++ replicate 3 0xA5
 
--- The bytes of the setup on a link, for a destination.
-unfoldable pub setupBytes : Link → ℕ → List ℕ
-setupBytes l destination = bytesOr [] (linkWrite l (plain Telecommand 20 255 destination) (toBytes 4 300))
+-- The bytes of the setup on a link, for a destination; it is for job 7.
+unfoldable pub setupOn : Link → ℕ → List ℕ
+setupOn l destination = bytesOr [] (linkWrite l (plain Telecommand 20 255 destination) (setupBytes 300 7))
 
 -- Unit and sender after the setup for the unit, which arrives as bytes on the link.
 unfoldable pub opened : Link → World Sender
 opened l =
     let unit = newDevice l 31 in
     record {
-      device = afterReceive unit (receive unit 303 (setupBytes l 31));
+      device = afterReceive unit (receive unit 303 (setupOn l 31));
       store = emptyStore;
-      requester = newSender l 255 31 300;
+      requester = newSender l 255 31 300 Job·of.None;
       request = [];
       answer = [];
     }
@@ -77,9 +79,12 @@ unfoldable pub afterRounds : Link → List Round → World Sender
 afterRounds l rs = run (sending file) (opened l) (scheduled (sending file) (opened l) rs)
 
 -- P11: "300 bytes, nothing lost, work always done: 2 frames, 8 rounds, finished."
+unfoldable pub allDelivered : Link → World Sender
+allDelivered l = afterRounds l (replicate 8 (withWork Fate·of.Delivered))
+
 abbrev pub NothingLost : Link → Type 0
 NothingLost l =
-    let w = afterRounds l (replicate 8 (withWork Fate·of.Delivered)) in
+    let w = allDelivered l in
     (framesKnown (w .requester) ≡ 2) × (w .requester .rounds ≡ 8) × (w .requester .state ≡ Finished) × (w .store ≡ fullStore)
 
 -- P12: "same file, last take-frame answer lost": so far the unit has taken the frame; then the work step, and the sender asks again.

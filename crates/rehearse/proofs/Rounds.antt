@@ -67,9 +67,9 @@ pub over-ended : (d : Device) (s : Sender) (n : ℕ) → isRunning (s .state) �
 unfolding runOver verdictResult isFailed
 over-ended d s n e = rw e
 
-pub over-bound : (d : Device) (s : Sender) (n : ℕ) → n ≡ 13107000 → runOver (after d s n) ≡ true
+pub over-bound : (d : Device) (s : Sender) (n : ℕ) → n ≡ 13107050 → runOver (after d s n) ≡ true
 unfolding runOver verdictResult isFailed
-over-bound d s n e = rw (eq-eqb n 13107000 e) (by (isRunning (s .state)) refl)
+over-bound d s n e = rw (eq-eqb n 13107050 e) (by (isRunning (s .state)) refl)
   where
     by : (t : Bool) → isRunning (s .state) ≡ t → (not (isRunning (s .state)) || true) ≡ true
     by true q = rw q

@@ -29,6 +29,7 @@ pub record Leaves (file : List ℕ) (d : Device) (store : List ℕ) (s : Sender)
   pub earlier : roundsRefusal (sending file) (nothingSent d store s) (roundsOf c (r .count - 1)) ≡ passed
   pub ran : 1 ≤ r .count → isRunning (madeBy file d store s c (r .count - 1) .requester .state) ≡ true
 
--- No round is left to make: the last was refused, or the sender has ended, or there were 200 for each of 65,535 frames.
+-- No round is left to make: the last was refused, or the sender has ended, or there were 200 for each of 65,535 frames and 50 for the
+-- setup.
 unfoldable pub runOver : Ran → Bool
-runOver r = isFailed (verdictResult (r .verdict)) || (not (isRunning (r .sender .state)) || eqb (r .count) 13107000)
+runOver r = isFailed (verdictResult (r .verdict)) || (not (isRunning (r .sender .state)) || eqb (r .count) 13107050)

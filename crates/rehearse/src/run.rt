@@ -11,8 +11,8 @@ use message_rules::Verdict;
 use round_rules::State;
 use sender_rules::Sender;
 
-// Two hundred rounds for each of 65,535 frames: every sender has ended by then.
-const MOST: u32 = 13107000;
+// Two hundred rounds for each of 65,535 frames, and fifty for the setup: every sender has ended by then.
+const MOST: u32 = 13107050;
 
 // What rounds leave: unit and sender, whether all of them passed, and how many were made. The first that is refused is the last.
 pub struct Ran {

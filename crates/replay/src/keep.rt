@@ -1,6 +1,7 @@
 // What a script keeps: a unit with its store, a sender, a file and a log. Store and file are the first so many bytes of their arrays. Of the log
 // only its length is here: its bytes lie in a space of their own, since what is kept is copied at every call.
 use device::Device;
+use file_rules::Job;
 use link_rules::Link;
 use round_rules::State;
 use sender_rules::Sender;
@@ -29,6 +30,7 @@ pub(crate) fn none() -> Kept {
         source: 0,
         destination: 0,
         size: 0,
+        job: Job::None,
         frame: 0,
         stage: Stage::Frame,
         since: 0,

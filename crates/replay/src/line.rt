@@ -2,7 +2,7 @@
 // c the call's name, l a link, k a kind, b a byte, e an error byte, o the length of an output, r a number of records, n any number,
 // s the length of a unit's store, t that of a store lent to the call alone, which may be absent, x a byte string, f the bytes of a file,
 // w work or rest, d what becomes of a request, m how many times, h a number of two bytes, g a string of eight bytes, y a filter type,
-// p a number of the filter type, which may be absent.
+// p a number that may be absent: of the filter type, or a job's.
 use crate::call::ABSENT;
 use crate::call::BAD;
 use crate::call::Call;
@@ -31,7 +31,7 @@ pub(crate) fn read(line: &[u8], beyond: bool, bytes: &mut [u8]) -> Call {
 // A line by the shape of the call that its first word names.
 fn named(line: &[u8], bytes: &mut [u8]) -> Call {
     let shapes =
-        b"clox clkbbbebox crkbbbebx clbs coxt ct c cf clbbn co cx cwd cx cmx c connnhhg cobnypp c";
+        b"clox clkbbbebox crkbbbebx clbs coxt ct c cf clbbnp co cx cwd cx cmx c connnhhg cobnypp c";
     match value_of(b'c', text_words::word(line, 0), bytes) {
         Value::Is(name) => complete(shaped(line, text_words::word(shapes, name), bytes)),
         Value::Bad => [BAD; 10],

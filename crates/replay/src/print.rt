@@ -6,6 +6,7 @@ use device::Device;
 use device::Phase;
 use event_rules::EventRecord;
 use event_rules::EventReport;
+use file_rules::Job;
 use libc::STDOUT_FILENO;
 use message_rules::ErrorByte;
 use message_rules::Kind;
@@ -89,7 +90,7 @@ pub(crate) fn refused(refusal: Refusal) {
     counted(b"refused", message_fields::refusal_number(refusal) as usize);
 }
 
-// ` PHASE NUMBER BUFFERED CHECKSUM PENDING STORED SIZE` of a unit.
+// ` PHASE NUMBER BUFFERED CHECKSUM PENDING STORED SIZE JOB LAST` of a unit.
 pub(crate) fn unit(unit: Device) {
     let transfer = unit.transfer;
     let phase = transfer.phase;
@@ -100,6 +101,17 @@ pub(crate) fn unit(unit: Device) {
     next(transfer.pending as u8);
     number(transfer.stored as usize);
     number(transfer.size as usize);
+    let open = transfer.job;
+    job(open);
+    let last = unit.finished;
+    job(last);
+}
+
+fn job(job: Job) {
+    match job {
+        Job::None => text(b" -"),
+        Job::Number(n) => number(n as usize),
+    }
 }
 
 fn phase_name(phase: Phase) {
@@ -138,6 +150,7 @@ fn running(sender: Sender) {
 
 fn letter(stage: Stage) -> u8 {
     match stage {
+        Stage::Setup => b'S',
         Stage::Frame => b'A',
         Stage::Back => b'A',
         Stage::Compare => b'B',

@@ -32,7 +32,7 @@ fn keep(call: Call, bytes: &[u8], kept: Kept) -> Kept {
     next
 }
 
-// sender LINK SOURCE DESTINATION LENGTH
+// sender LINK SOURCE DESTINATION LENGTH, and a JOB or none
 fn start(call: Call, kept: Kept) -> Kept {
     match started(call) {
         SenderAnswer::Refused(refusal) => {
@@ -52,6 +52,7 @@ fn started(call: Call) -> SenderAnswer {
         call::byte(call[2]),
         call::byte(call[3]),
         call[4],
+        call::job(call[5]),
     )
 }
 

@@ -1,17 +1,30 @@
--- A beginning of a legal list is legal, with its own rounds: induction over the list, cut at its first call or after it.
+-- A beginning of a legal list is legal, with its own rounds: induction over the list, cut at its first call or after it. And what calls tell, by induction over them.
 use Prim.Native.Nat.{ℕ}
-use mathlib.Core.Bool.{Bool, false}
+use mathlib.Core.Bool.{Bool, true, false, cond}
 use mathlib.Core.List.{List, [], _∷_, _++_}
-use mathlib.Core.Path.{_≡_, refl, ap}
+use mathlib.Core.Path.{_≡_, refl, ap, _∙_}
 use native.Mathlib.Omega.{arith}
 use Rattle.round_rules.specs.Legal.{Place, Legal, stops, refuses, begunAnew, workDone, requestMade, requestArrives, requestRepeats, delivered, requestLost, answerLost, twice, endedWorks, endedAsks, endedHears, Beginning, EveryBeginning}
 use Rattle.round_rules.specs.Requester.{Requester}
-use Rattle.round_rules.specs.World.{World, Call, does, run}
+use Rattle.round_rules.specs.World.{World, Call, does, run, isRefused, told}
 
 pub run-append : {S : Type 0} (s : Requester S) (w : World S) (a b : List Call) → run s w (a ++ b) ≡ run s (run s w a) b
 unfolding run
 run-append s w [] b = refl
 run-append s w (c ∷ a) b = run-append s (does s w c) a b
+
+-- A part of what calls tell is what they tell by the part of each step.
+part-of : {T U : Type 0} (part : T → U) (b : Bool) (x y : T) → part (cond b x y) ≡ cond b (part x) (part y)
+part-of part true x y = refl
+part-of part false x y = refl
+
+module _ {S T U : Type 0} (s : Requester S) (whole : World S → Call → T → T) (one : World S → Call → U → U) (part : T → U)
+    (same : (w : World S) (c : Call) (t : T) → part (whole w c t) ≡ one w c (part t)) where
+  pub told-part : (w : World S) (h : List Call) (t : T) → part (told s whole w h t) ≡ told s one w h (part t)
+  unfolding told
+  told-part w [] t = refl
+  told-part w (c ∷ h) t =
+      told-part (does s w c) h _ ∙ ap (told s one (does s w c) h) (part-of part (isRefused s w c) t (whole w c t) ∙ ap (cond (isRefused s w c) (part t)) (same w c t))
 
 -- A list with a first call, cut at it or after it.
 cut : (P : List Call → Type 0) (a b : List Call) (c : Call) (h : List Call) → c ∷ h ≡ a ++ b → P [] → ((a′ : List Call) → h ≡ a′ ++ b → P (c ∷ a′)) → P a

@@ -9,7 +9,7 @@ use Rattle.device_rules.specs.declared.Device.{Device}
 use Rattle.round_rules.specs.Requester.{isRunning, nothing, Lent, shared, Requester}
 use Rattle.round_rules.specs.Legal.{Place, begun, asked, arrived, repeated, between, Legal, stops, refuses, begunAnew, workDone, requestMade, requestArrives, requestRepeats, delivered, requestLost, answerLost, twice, endedWorks, endedAsks, endedHears}
 use Rattle.round_rules.specs.Schedule.{output}
-use Rattle.round_rules.specs.World.{World, Call, works, asks, arrives, hears, makes, starts, requesterOr, runsOn, does, run, isRefused, answerCheck, isFailed, callCheck}
+use Rattle.round_rules.specs.World.{World, Call, works, asks, arrives, hears, makes, starts, requesterOr, runsOn, does, run, isRefused, answerCheck, isFailed, callCheck, told}
 use Rattle.round_rules.proofs.Refused.{refused-leaves}
 
 -- The requester runs, or has ended, and then no round is under way.
@@ -69,7 +69,7 @@ module _ {S : Type 0} (k : Shape S) where
   Invariant w past n p = Either (k .Running w past n) (HasEnded w past n) p
 
 module _ {S : Type 0} (a : Requester S) (k : Shape S) where
-  -- The note after a call, and after a list of them.
+  -- The note after a call.
   unfoldable pub note : World S → Call → k .Note → k .Note
   note w (works l) n = k .noteWork n
   note w (asks l out) n = n
@@ -80,10 +80,6 @@ module _ {S : Type 0} (a : Requester S) (k : Shape S) where
 
   unfoldable pub noted : World S → Call → k .Note → k .Note
   noted w c n = cond (isRefused a w c) n (note w c n)
-
-  unfoldable pub notes : World S → List Call → k .Note → k .Note
-  notes w [] n = n
-  notes w (c ∷ h) n = notes (does a w c) h (noted w c n)
 
   -- No call of a round is refused, with an output that every message fits.
   pub record Free : Type 0 where
@@ -157,8 +153,8 @@ module _ {S : Type 0} {a : Requester S} {k : Shape S} (st : Steady a k) where
 
   -- A legal list keeps the invariant.
   pub keeps : {w : World S} {p : Place} {h : List Call} {rounds : List Bool} → Legal a w p h rounds → (past : List Bool) (n : k .Note) → Invariant k w past n p
-      → (p′ : Place) × Invariant k (run a w h) (past ++ rounds) (notes a k w h n) p′
-  unfolding run notes
+      → (p′ : Place) × Invariant k (run a w h) (past ++ rounds) (told a (note a k) w h n) p′
+  unfolding run told noted
   keeps {p = p} stops past n h = (p, rw append-nil h)
   keeps (refuses {w = w} {p = p} {c = c} e r) past n h = keeps r past _ (keeps-refused w past n p c e h)
   keeps (begunAnew {w = w} {p = p} g r) past n h = keeps r past n (runs (st .anew w past n p (running w past n p g h)))

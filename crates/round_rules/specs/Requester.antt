@@ -3,6 +3,7 @@ use Prim.Native.Nat.{ℕ}
 use mathlib.Core.Bool.{Bool, true, false}
 use mathlib.Core.List.{List}
 use Rattle.message_rules.specs.Answer.{Answer}
+use Rattle.file_rules.specs.declared.Job.{Job}
 use Rattle.link_rules.specs.declared.Link.{Link}
 use Rattle.round_rules.specs.declared.State.{State}
 use Rattle.round_rules.specs.declared.State.the-variants.{Running, Finished, GivenUp}
@@ -37,6 +38,7 @@ pub record Starting : Type 0 where
   pub source : ℕ
   pub destination : ℕ
   pub size : ℕ
+  pub job : Job
 
 -- Its rules, over its state: starting it, its request, its answer call with the answer's bytes, [] for none, and whether it runs, has finished
 -- or has given up.

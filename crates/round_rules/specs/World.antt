@@ -1,7 +1,7 @@
 -- The world of a run, and what a call does to it (document 01, "The unit" and "The sender and its rounds"). Every call is one of the
 -- library's functions on the arguments that it is lent, and does what that function's definition says.
 use Prim.Native.Nat.{ℕ}
-use mathlib.Core.Bool.{Bool, true, false}
+use mathlib.Core.Bool.{Bool, true, false, cond}
 use mathlib.Core.List.{List, [], _∷_}
 use lib.ListN.{length}
 use Rattle.message_rules.specs.Answer.{Answer, Check, refused, given, passed, failed, within}
@@ -121,3 +121,8 @@ module _ {S : Type 0} (a : Requester S) where
 
   unfoldable pub isRefused : World S → Call → Bool
   isRefused w c = isFailed (callCheck w c)
+
+  -- What calls tell one after the other, each by a step of its own. A refused call tells nothing.
+  unfoldable pub told : {T : Type 0} → (World S → Call → T → T) → World S → List Call → T → T
+  told step w [] t = t
+  told step w (c ∷ h) t = told step (does w c) h (cond (isRefused w c) t (step w c t))

@@ -1,11 +1,16 @@
 // The request of a round.
+ghost use Prim.Native.Nat.{ℕ};
 ghost use mathlib.Core.Path.{_≡_};
+ghost use lib.ListN.{length, take};
 ghost use Rattle.message_rules.specs.Answer.{within, counted, outputAfter, about};
 ghost use Rattle.link_rules.specs.Link.{linkWrite};
 ghost use Rattle.little_endian_rules.specs.LittleEndian.{toBytes};
 ghost use Rattle.round_rules.specs.Requester.{sent};
+ghost use Rattle.file_rules.specs.Setup.{setupPayload};
 ghost use Rattle.sender_rules.specs.Sender.{request, requestPayload, requestResult};
 use crate::checks;
+use file_rules::Job;
+use file_rules::SETUP_LENGTH;
 use link_rules::Link;
 use message_rules::Message;
 use message_rules::Refusal;
@@ -28,17 +33,48 @@ pub fn request(sender: Sender, file: &[u8], out: &mut [u8]) -> RequestAnswer
     }
     let link = sender.link;
     let stage = sender.stage;
+    let job = sender.job;
+    let setup = setup_bytes(sender.size, job);
     let number = little_endian::u32_to_bytes(sender.frame);
-    let payload = request_payload(stage, file, sender.frame, &number[..2]);
+    let payload = request_payload(stage, job, file, sender.frame, &setup, &number[..2]);
     send(link, sender_state::request_message(sender), payload, out)
 }
 
-// What the request of a stage carries; number is the frame's in two bytes.
-fn request_payload<'a>(stage: Stage, file: &'a [u8], frame: u32, number: &'a [u8]) -> &'a [u8]
+// The bytes of a setup for this job; without one they announce nothing.
+fn setup_bytes(size: u32, job: Job) -> [u8; SETUP_LENGTH]
+    ensures { λ r. ⌜ take (length (setupPayload size job)) r ≡ setupPayload size job ⌝ }
+{
+    match job {
+        Job::None => [0u8; SETUP_LENGTH],
+        Job::Number(number) => file_setup::write(size, number),
+    }
+}
+
+// How many of them are the payload.
+fn setup_length(job: Job) -> usize
+    ensures { λ r. ⌜ ((size : ℕ) → r ≡ length (setupPayload size job)) ⌝ }
+{
+    match job {
+        Job::None => 0,
+        Job::Number(_) => SETUP_LENGTH,
+    }
+}
+
+// What the request of a stage carries: setup begins with the payload that announces the file for the job, and number is the frame's in two bytes.
+fn request_payload<'a>(
+    stage: Stage,
+    job: Job,
+    file: &'a [u8],
+    frame: u32,
+    setup: &'a [u8],
+    number: &'a [u8],
+) -> &'a [u8]
+    requires { ⌜ take (length (setupPayload (length (now file)) job)) (now setup) ≡ setupPayload (length (now file)) job ⌝ }
     requires { ⌜ now number ≡ toBytes 2 frame ⌝ }
-    ensures { λ r. ⌜ now r ≡ requestPayload stage (now (file .entry)) frame ⌝ }
+    ensures { λ r. ⌜ now r ≡ requestPayload stage job (now (file .entry)) frame ⌝ }
 {
     match stage {
+        Stage::Setup => &setup[..setup_length(job)],
         Stage::Frame => file_frames::file_frame(file, frame),
         Stage::Back => file_frames::file_frame(file, frame),
         Stage::Compare => &file[..0],

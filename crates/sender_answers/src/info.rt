@@ -14,6 +14,7 @@ pub(crate) fn info_meaning(stage: Stage, file: &[u8], frame: u32, info: &[u8]) -
         return Meaning::Stay;
     }
     match stage {
+        Stage::Setup => Meaning::Stay,
         Stage::Frame => Meaning::Stay,
         Stage::Back => Meaning::Stay,
         Stage::Compare => informed(info, compared(file_frames::file_frame(file, frame), info)),

@@ -65,6 +65,7 @@ fn ack_meaning(stage: Stage) -> Meaning
     ensures { λ r. ⌜ r ≡ ackMeaning stage ⌝ }
 {
     match stage {
+        Stage::Setup => Meaning::Forward,
         Stage::Frame => Meaning::Forward,
         Stage::Back => Meaning::Forward,
         Stage::Compare => Meaning::Stay,
@@ -77,6 +78,7 @@ fn nack_meaning(stage: Stage, error: ErrorByte) -> Meaning
     ensures { λ r. ⌜ r ≡ nackMeaning stage error ⌝ }
 {
     match stage {
+        Stage::Setup => Meaning::Stay,
         Stage::Frame => Meaning::Stay,
         Stage::Back => Meaning::Stay,
         Stage::Compare => Meaning::Stay,

@@ -23,6 +23,7 @@ two-at p i h = rw (drop-cons p i 0 (omega arith), drop-cons p (suc i) 0 (omega a
 -- An info of another length is any other answer, at every stage.
 pub no-info : (s : Stage) (file : List ℕ) (i : ℕ) (p : List ℕ) → (length p ≡ 7 → ⊥) → Stay ≡ infoMeaning s file i p
 unfolding infoMeaning informed
+no-info Stage·of.Setup file i p h = refl
 no-info Stage·of.Frame file i p h = refl
 no-info Stage·of.Back file i p h = refl
 no-info Stage·of.Compare file i p h = rw (ne-eqb (length p) 7 h)

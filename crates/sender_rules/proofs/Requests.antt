@@ -23,7 +23,7 @@ module _ (s : Sender) (file : List ℕ) where
   changed-asks e q = rw (e, q)
 
   pub running-asks : isRunning (s .state) ≡ true → eqb (length file) (s .size) ≡ true
-      → request s file ≡ about sent (linkWrite (s .link) (requestMessage s) (requestPayload (s .stage) file (s .frame)))
+      → request s file ≡ about sent (linkWrite (s .link) (requestMessage s) (requestPayload (s .stage) (s .job) file (s .frame)))
   unfolding request sameFile require after
   running-asks e q = rw (e, q)
 

@@ -13,6 +13,7 @@ use Rattle.message_rules.specs.declared.Kind.the-variants.{TelecommandAck, Tele
 use Rattle.message_rules.specs.declared.Message.{Message}
 use Rattle.file_rules.specs.Checksum.{checksum}
 use Rattle.file_rules.specs.File.{frameCount, fileFrame}
+use Rattle.file_rules.specs.declared.Job.the-variants.{None, Number}
 use Rattle.link_rules.specs.Link.{linkRead, carriesError}
 use Rattle.link_rules.specs.declared.Link.{Link}
 use Rattle.link_rules.specs.declared.Link.the-variants.{Uart, Rs485, Can, Csp}
@@ -20,15 +21,35 @@ use Rattle.link_rules.proofs.Laws.{no-bytes}
 use Rattle.round_rules.specs.Requester.{isRunning}
 use Rattle.round_rules.specs.declared.State.the-variants.{Running, Finished, GivenUp}
 use Rattle.sender_rules.specs.Hearing.{fits, takenError, infoNumber, infoSize, infoChecksum, infoError, compared, confirmed, informed, ackMeaning, nackMeaning, infoMeaning, kindMeaning, meaning, oneMore, waited, hasNext, advanced, roundOver, hear}
+use Rattle.sender_rules.specs.Sender.{newSender}
 use Rattle.sender_rules.specs.declared.Meaning.the-variants.{Stay, Flagged}
 use Rattle.sender_rules.specs.declared.Sender.{Sender}
 use Rattle.sender_rules.specs.declared.Stage.{Stage}
-use Rattle.sender_rules.specs.declared.Stage.the-variants.{Frame, Back, Compare, Take, Confirm}
+use Rattle.sender_rules.specs.declared.Stage.the-variants.{Setup, Frame, Back, Compare, Take, Confirm}
+
+-- "A sender started with a job number has one stage before frame 0's A" (document 02, ticket 5), and one without begins there.
+module _ (l : Link) (source destination n : ℕ) where
+  pub job-begins : (number : ℕ) → newSender l source destination n (Number number) .stage ≡ Setup
+  unfolding newSender
+  job-begins number = refl
+
+  pub plain-begins : newSender l source destination n None .stage ≡ Frame
+  unfolding newSender
+  plain-begins = refl
 
 -- A sender, and an answer that fits.
 module _ (s : Sender) (file : List ℕ) (m : Message) (p : List ℕ) (fit : fits s m ≡ true) where
   abbrev next : Sender
   next = roundOver s (meaning s file (given m p))
+
+  -- Document 02, ticket 5: "sends setup; ack: A", of the same frame, and no nack leads there.
+  pub acked-a : s .stage ≡ Setup → m .kind ≡ TelecommandAck → (next .stage ≡ Frame) × (next .frame ≡ s .frame) × (next .since ≡ 0)
+  unfolding meaning kindMeaning ackMeaning roundOver advanced waited
+  acked-a at kind = rw (fit, kind, at) (refl, refl, refl)
+
+  pub nacked-setup : s .stage ≡ Setup → m .kind ≡ TelecommandNack → next .stage ≡ Setup
+  unfolding meaning kindMeaning nackMeaning roundOver waited
+  nacked-setup at kind = rw (fit, kind, at)
 
   -- A: "Ack: B."
   pub acked-b : s .stage ≡ Frame → m .kind ≡ TelecommandAck → next .stage ≡ Compare

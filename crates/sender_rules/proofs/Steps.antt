@@ -16,6 +16,8 @@ use Rattle.message_rules.specs.declared.Kind.the-variants as Kind·of
 use Rattle.message_rules.specs.declared.Message.{Message}
 use Rattle.file_rules.specs.Checksum.{checksum}
 use Rattle.file_rules.specs.File.{fileFrame}
+use Rattle.file_rules.specs.declared.Job.{Job}
+use Rattle.file_rules.specs.declared.Job.the-variants as Job·of
 use Rattle.link_rules.specs.Link.{linkRead}
 use Rattle.link_rules.specs.declared.Link.{Link}
 use Rattle.round_rules.specs.Requester.{isRunning}
@@ -27,7 +29,7 @@ use Rattle.sender_rules.specs.declared.Meaning.{Meaning}
 use Rattle.sender_rules.specs.declared.Meaning.the-variants.{Stay, Forward, Differs, Flagged}
 use Rattle.sender_rules.specs.declared.Sender.{Sender}
 use Rattle.sender_rules.specs.declared.Stage.{Stage}
-use Rattle.sender_rules.specs.declared.Stage.the-variants.{Frame, Back, Compare, Take, Confirm}
+use Rattle.sender_rules.specs.declared.Stage.the-variants.{Setup, Frame, Back, Compare, Take, Confirm}
 use Rattle.sender_rules.proofs.Situations.{senderAt}
 
 -- A round makes a step forward, and none is since it; or it makes none, and is one more since the last. Below fifty the sender runs on.
@@ -52,6 +54,7 @@ informs p m stage h = either (eqb (length p) 7) (cond (infoError p) Flagged m) S
 
 info-possible : (stage : Stage) (file : List ℕ) (i : ℕ) (p : List ℕ) → Possible (infoMeaning stage file i p) stage
 unfolding infoMeaning compared confirmed
+info-possible Setup file i p = tt
 info-possible Frame file i p = tt
 info-possible Back file i p = tt
 info-possible Compare file i p =
@@ -62,6 +65,7 @@ info-possible Confirm file i p = informs p (confirmed i p) Confirm (either (eqb 
 
 ack-possible : (stage : Stage) → Possible (ackMeaning stage) stage
 unfolding ackMeaning
+ack-possible Setup = tt
 ack-possible Frame = tt
 ack-possible Back = tt
 ack-possible Compare = tt
@@ -70,6 +74,7 @@ ack-possible Confirm = tt
 
 nack-possible : (stage : Stage) (e : ErrorByte) → Possible (nackMeaning stage e) stage
 unfolding nackMeaning
+nack-possible Setup e = tt
 nack-possible Frame e = tt
 nack-possible Back e = tt
 nack-possible Compare e = tt
@@ -94,12 +99,22 @@ possible s file (given m p) = either (fits s m) (kindMeaning (m .kind) s file m 
 ended-clash : {P : Type 0} → false ≡ true → P
 ended-clash e = absurd (let z : _≡_ {A = ℕ} 0 1 = cc in omega arith)
 
-module _ (l : Link) (source destination n f since rounds : ℕ) (x : State) (on : x ≡ Running) where
+-- A sender at the stage before A has a job. That holds of every sender that was started, whatever it heard.
+abbrev pub JobAt : Stage → Job → Type 0
+JobAt Setup Job·of.None = ⊥
+JobAt Setup (Job·of.Number n) = Unit
+JobAt Frame job = Unit
+JobAt Back job = Unit
+JobAt Compare job = Unit
+JobAt Take job = Unit
+JobAt Confirm job = Unit
+
+module _ (l : Link) (source destination n : ℕ) (job : Job) (f since rounds : ℕ) (x : State) (on : x ≡ Running) where
   abbrev at-stage : Stage → Sender
-  at-stage stage = senderAt l source destination n f stage since rounds x
+  at-stage stage = senderAt l source destination n job f stage since rounds x
 
   -- A round without a step,
-  waits : (stage next : Stage) → stageSteps stage ≡ stageSteps next → Counts (at-stage stage) (waited (at-stage stage) next)
+  waits : (stage next : Stage) → stageSteps job stage ≡ stageSteps job next → Counts (at-stage stage) (waited (at-stage stage) next)
   unfolding waited steps
   waits stage next same = by (ltb (since + 1) mostWaits) refl
     where
@@ -107,56 +122,87 @@ module _ (l : Link) (source destination n f since rounds : ℕ) (x : State) (on 
       by true e = rw (e, on) (none refl refl (omega (arith, same)) (λ r. ltb-true (since + 1) mostWaits e))
       by false e = rw (e, on) (none refl refl (omega (arith, same)) (λ r. ended-clash r))
 
-  -- and with the answer that the stage waits for.
-  forward : (stage : Stage) → Counts (at-stage stage) (roundOver (at-stage stage) Forward)
+  -- and with the answer that the stage waits for: first the setup's ack, of a sender with a job.
+  first : (j : Job) → job ≡ j → JobAt Setup j → Counts (at-stage Setup) (roundOver (at-stage Setup) Forward)
   unfolding roundOver advanced steps
-  forward Frame = rw on (step refl refl (omega arith))
-  forward Back = waits Back Compare refl
-  forward Compare = rw on (step refl refl (omega arith))
-  forward Take = rw on (step refl refl (omega arith))
-  forward Confirm = by (hasNext (at-stage Confirm)) refl
+  first (Job·of.Number n) e j = rw (on, e) (step refl refl (omega arith))
+
+  forward : (stage : Stage) → JobAt stage job → Counts (at-stage stage) (roundOver (at-stage stage) Forward)
+  unfolding roundOver advanced steps
+  forward Setup j = first job refl j
+  forward Frame j = rw on (step refl refl (omega arith))
+  forward Back j = waits Back Compare refl
+  forward Compare j = rw on (step refl refl (omega arith))
+  forward Take j = rw on (step refl refl (omega arith))
+  forward Confirm j = by (hasNext (at-stage Confirm)) refl
     where
       by : (t : Bool) → hasNext (at-stage Confirm) ≡ t → Counts (at-stage Confirm) (roundOver (at-stage Confirm) Forward)
       by true q = rw (q, on) (step refl refl (omega arith))
       by false q = rw (q, on) (step refl refl (omega arith))
 
-  over : (m : Meaning) (stage : Stage) → Possible m stage → Counts (at-stage stage) (roundOver (at-stage stage) m)
+  over : (m : Meaning) (stage : Stage) → JobAt stage job → Possible m stage → Counts (at-stage stage) (roundOver (at-stage stage) m)
   unfolding roundOver steps
-  over Stay stage p = waits stage stage refl
-  over Forward stage p = forward stage
-  over Differs stage p = waits stage Back (rw p refl)
-  over Flagged stage p = rw on (none refl refl (omega arith) (λ r. ended-clash r))
+  over Stay stage j p = waits stage stage refl
+  over Forward stage j p = forward stage j
+  over Differs stage j p = waits stage Back (rw p refl)
+  over Flagged stage j p = rw on (none refl refl (omega arith) (λ r. ended-clash r))
+
+-- No answer leads to the stage before A.
+onward : (s : Sender) (stage : Stage) → s .stage ≡ stage → JobAt (roundOver s Forward .stage) (roundOver s Forward .job)
+unfolding roundOver advanced waited hasNext
+onward s Setup e = rw e tt
+onward s Frame e = rw e tt
+onward s Back e = rw e tt
+onward s Compare e = rw e tt
+onward s Take e = rw e tt
+onward s Confirm e = by (hasNext s) refl
+  where
+    by : (t : Bool) → hasNext s ≡ t → JobAt (roundOver s Forward .stage) (roundOver s Forward .job)
+    by true q = rw (e, q) tt
+    by false q = rw (e, q) tt
+
+job-stays : (s : Sender) (m : Meaning) → JobAt (s .stage) (s .job) → JobAt (roundOver s m .stage) (roundOver s m .job)
+unfolding roundOver waited
+job-stays s Stay j = j
+job-stays s Forward j = onward s (s .stage) refl
+job-stays s Differs j = tt
+job-stays s Flagged j = j
 
 still : (x : State) → isRunning x ≡ true → x ≡ Running
 still Running e = refl
 still Finished e = ended-clash e
 still GivenUp e = ended-clash e
 
--- So does every answer call of a sender that runs, whatever the sender and the answer.
-pub hear-counts : (s : Sender) (file b : List ℕ) (s′ : Sender) → isRunning (s .state) ≡ true → hear s file b ≡ given s′ tt → Counts s s′
+-- So does every answer call of a sender that runs and has a job where its stage wants one, whatever the answer.
+pub hear-counts : (s : Sender) (file b : List ℕ) (s′ : Sender) → isRunning (s .state) ≡ true → JobAt (s .stage) (s .job) → hear s file b ≡ given s′ tt
+    → Counts s s′ × JobAt (s′ .stage) (s′ .job)
 unfolding hear
-hear-counts s file b s′ on e =
+hear-counts s file b s′ on j e =
     let m = meaning s file (linkRead (s .link) b) in
     let next : roundOver s m ≡ s′ = after-given _ _ s′ tt tt (rw on at e) .1 in
-    rw (← next) (over (s .link) (s .source) (s .destination) (s .size) (s .frame) (s .since) (s .rounds) (s .state) (still (s .state) on) m (s .stage) (possible s file _))
+    rw (← next) (over (s .link) (s .source) (s .destination) (s .size) (s .job) (s .frame) (s .since) (s .rounds) (s .state) (still (s .state) on) m (s .stage) j (possible s file _), job-stays s m j)
 
--- All rounds of a sender are at most those since its last step and fifty for each step; while it runs, fewer than fifty are since.
-abbrev pub RoundsWithin : Sender → Type 0
-RoundsWithin s = (s .rounds ≤ s .since + 50 * steps s) × (isRunning (s .state) ≡ true → s .since < 50)
+-- All rounds of a sender are at most those since its last step and fifty for each step; while it runs, fewer than fifty are since. At the stage
+-- before A it has a job.
+pub record RoundsWithin (s : Sender) : Type 0 where
+  pub most : s .rounds ≤ s .since + 50 * steps s
+  pub few : isRunning (s .state) ≡ true → s .since < 50
+  pub job : JobAt (s .stage) (s .job)
 
-pub start-within : (l : Link) (source destination n : ℕ) → RoundsWithin (newSender l source destination n)
+pub start-within : (l : Link) (source destination n : ℕ) (job : Job) → RoundsWithin (newSender l source destination n job)
 unfolding newSender steps
-start-within l source destination n = (omega arith, λ e. omega arith)
+start-within l source destination n Job·of.None = record { most = omega arith; few = λ e. omega arith; job = tt }
+start-within l source destination n (Job·of.Number j) = record { most = omega arith; few = λ e. omega arith; job = tt }
 
-counts-within : (s s′ : Sender) → s .since < 50 → s .rounds ≤ s .since + 50 * steps s → Counts s s′ → RoundsWithin s′
+counts-within : (s s′ : Sender) → s .since < 50 → s .rounds ≤ s .since + 50 * steps s → JobAt (s′ .stage) (s′ .job) → Counts s s′ → RoundsWithin s′
 unfolding oneMore
-counts-within s s′ few had (step r i k) = (omega (arith, r, i, k, few, had), λ e. omega (arith, i))
-counts-within s s′ few had (none r i k w) = (omega (arith, r, i, k, few, had), λ e. omega (arith, i, w e))
+counts-within s s′ few had j (step r i k) = record { most = omega (arith, r, i, k, few, had); few = λ e. omega (arith, i); job = j }
+counts-within s s′ few had j (none r i k w) = record { most = omega (arith, r, i, k, few, had); few = λ e. omega (arith, i, w e); job = j }
 
 pub hear-within : (s : Sender) (file b : List ℕ) (s′ : Sender) → RoundsWithin s → hear s file b ≡ given s′ tt → RoundsWithin s′
 unfolding hear
 hear-within s file b s′ h e = by (isRunning (s .state)) refl
   where
     by : (t : Bool) → isRunning (s .state) ≡ t → RoundsWithin s′
-    by true on = counts-within s s′ (h .1 on) (h .0) (hear-counts s file b s′ on e)
+    by true on = let g = hear-counts s file b s′ on (h .job) e in counts-within s s′ (h .few on) (h .most) (g .1) (g .0)
     by false over = let same : s ≡ s′ = cc (rw over at e) in rw (← same) h

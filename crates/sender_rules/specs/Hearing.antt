@@ -13,6 +13,8 @@ use Rattle.message_rules.specs.declared.Message.{Message}
 use Rattle.little_endian_rules.specs.LittleEndian.{fromBytes}
 use Rattle.file_rules.specs.Checksum.{checksum}
 use Rattle.file_rules.specs.File.{frameCount, fileFrame}
+use Rattle.file_rules.specs.declared.Job.{Job}
+use Rattle.file_rules.specs.declared.Job.the-variants.{None, Number}
 use Rattle.link_rules.specs.Link.{linkRead, carriesAddresses}
 use Rattle.sender_rules.specs.Sender.{requestId, sameFile}
 use Rattle.round_rules.specs.Requester.{isRunning}
@@ -20,7 +22,7 @@ use Rattle.sender_rules.specs.declared.Meaning.{Meaning}
 use Rattle.sender_rules.specs.declared.Meaning.the-variants.{Stay, Forward, Differs, Flagged}
 use Rattle.sender_rules.specs.declared.Sender.{Sender}
 use Rattle.sender_rules.specs.declared.Stage.{Stage}
-use Rattle.sender_rules.specs.declared.Stage.the-variants.{Frame, Back, Compare, Take, Confirm}
+use Rattle.sender_rules.specs.declared.Stage.the-variants.{Setup, Frame, Back, Compare, Take, Confirm}
 use Rattle.round_rules.specs.declared.State.{State}
 use Rattle.round_rules.specs.declared.State.the-variants.{Running, Finished, GivenUp}
 
@@ -62,8 +64,9 @@ confirmed i p = cond (eqb (infoNumber p) i) Forward Stay
 unfoldable pub informed : List ℕ → Meaning → Meaning
 informed p m = cond (eqb (length p) 7) (cond (infoError p) Flagged m) Stay
 
--- What a fitting answer of each kind means at a stage.
+-- What a fitting answer of each kind means at a stage. At the first "ack: A" (document 02, ticket 5), and no nack leads on.
 unfoldable pub ackMeaning : Stage → Meaning
+ackMeaning Setup = Forward
 ackMeaning Frame = Forward
 ackMeaning Back = Forward
 ackMeaning Compare = Stay
@@ -71,6 +74,7 @@ ackMeaning Take = Forward
 ackMeaning Confirm = Stay
 
 unfoldable pub nackMeaning : Stage → ErrorByte → Meaning
+nackMeaning Setup e = Stay
 nackMeaning Frame e = Stay
 nackMeaning Back e = Stay
 nackMeaning Compare e = Stay
@@ -78,6 +82,7 @@ nackMeaning Take e = cond (takenError e) Forward Stay
 nackMeaning Confirm e = Stay
 
 unfoldable pub infoMeaning : Stage → List ℕ → ℕ → List ℕ → Meaning
+infoMeaning Setup file i p = Stay
 infoMeaning Frame file i p = Stay
 infoMeaning Back file i p = Stay
 infoMeaning Compare file i p = informed p (compared (fileFrame file i) p)
@@ -100,6 +105,7 @@ meaning s file (given m p) = cond (fits s m) (kindMeaning (m .kind) s file m p) 
 
 -- The stage that `Forward` leads to; after D it is A of the next frame.
 abbrev pub nextStage : Stage → Stage
+nextStage Setup = Frame
 nextStage Frame = Compare
 nextStage Back = Compare
 nextStage Compare = Take
@@ -108,6 +114,7 @@ nextStage Confirm = Frame
 
 -- D is the last stage of a frame.
 abbrev pub isLastStage : Stage → Bool
+isLastStage Setup = false
 isLastStage Frame = false
 isLastStage Back = false
 isLastStage Compare = false
@@ -116,30 +123,37 @@ isLastStage Confirm = true
 
 -- "A step forward is the first arrival at a stage of frame i, or the finish": every one but that from A again to B.
 abbrev pub isStep : Stage → Bool
+isStep Setup = true
 isStep Frame = true
 isStep Back = false
 isStep Compare = true
 isStep Take = true
 isStep Confirm = true
 
--- The steps forward in a frame before each stage of it. A again comes after B.
-abbrev pub stageSteps : Stage → ℕ
-stageSteps Frame = 0
-stageSteps Back = 1
-stageSteps Compare = 1
-stageSteps Take = 2
-stageSteps Confirm = 3
+-- The steps forward in front of frame 0's A: with a job the arrival there is one.
+abbrev pub jobSteps : Job → ℕ
+jobSteps None = 0
+jobSteps (Number n) = 1
+
+-- Those, and the steps forward in a frame before each stage of it. A again comes after B.
+abbrev pub stageSteps : Job → Stage → ℕ
+stageSteps job Setup = 0
+stageSteps job Frame = jobSteps job
+stageSteps job Back = jobSteps job + 1
+stageSteps job Compare = jobSteps job + 1
+stageSteps job Take = jobSteps job + 2
+stageSteps job Confirm = jobSteps job + 3
 
 abbrev pub finishSteps : State → ℕ
 finishSteps Running = 0
 finishSteps Finished = 1
 finishSteps GivenUp = 0
 
--- All steps forward so far: four a frame, and the finish is one.
+-- All steps forward so far: four a frame, with a job one more, and the finish is one.
 unfoldable pub steps : Sender → ℕ
-steps s = 4 * s .frame + stageSteps (s .stage) + finishSteps (s .state)
+steps s = 4 * s .frame + stageSteps (s .job) (s .stage) + finishSteps (s .state)
 
--- A sender with these in place of its own, and one round more: "rounds used (all it had)". An upload has at most 200 * 65,535, which 32 bits hold.
+-- A sender with these in place of its own, and one round more: "rounds used (all it had)". An upload has at most 200 * 65,535 + 50, which 32 bits hold.
 abbrev pub changed : Sender → ℕ → Stage → ℕ → State → Sender
 changed s frame stage since state =
     record {
@@ -147,6 +161,7 @@ changed s frame stage since state =
       source = s .source;
       destination = s .destination;
       size = s .size;
+      job = s .job;
       frame = frame;
       stage = stage;
       since = since;

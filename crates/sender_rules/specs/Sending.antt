@@ -9,7 +9,7 @@ use Rattle.sender_rules.specs.declared.Sender.{Sender}
 abbrev pub sending : List ℕ → Requester Sender
 sending file =
     record {
-      start = λ s. start (s .link) (s .source) (s .destination) (s .size);
+      start = λ s. start (s .link) (s .source) (s .destination) (s .size) (s .job);
       ask = λ s l. request s (lent l file);
       hear = λ s l b. hear s (lent l file) b;
       outcome = λ s. s .state;

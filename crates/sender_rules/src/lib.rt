@@ -4,13 +4,16 @@
 // The rules are definitions of `specs/`: `Sender` (the state, starting, the request of each stage), `Hearing` (what an answer means, and what
 // a round does to the state) and `Sending` (the sender as the side that asks). `proofs/Stages.antt` has document 01's sentences on the stages as
 // laws of them, and `proofs/Steps.antt` what rounds count.
+use file_rules::Job;
 use link_rules::Link;
 use message_rules::Refusal;
 use round_rules::State;
 
-// The four stages of a frame, with document 01's letter for each. `Back` is A after a frame info at B that differed: the next
-// arrival at B is then no step forward.
+// The four stages of a frame, with document 01's letter for each, and document 02's "one stage before frame 0's A", which a sender with a job begins
+// at. `Back` is A after a frame info at B that differed: the next arrival at B is then no step forward.
 pub enum Stage {
+    // The stage before frame 0's A: sends setup.
+    Setup,
     // A: sends frame.
     Frame,
     // A again.
@@ -30,6 +33,8 @@ pub struct Sender {
     pub destination: u8,
     // The file's size: document 01's "length".
     pub size: u32,
+    // The job that it was started with, if any.
+    pub job: Job,
     // The frame that it is at, from 0, and the stage of it.
     pub frame: u32,
     pub stage: Stage,

@@ -36,6 +36,7 @@ fn is_step(stage: Stage) -> bool
     ensures { λ r. ⌜ r ≡ isStep stage ⌝ }
 {
     match stage {
+        Stage::Setup => true,
         Stage::Frame => true,
         Stage::Back => false,
         Stage::Compare => true,
@@ -95,11 +96,13 @@ fn changed(sender: Sender, frame: u32, stage: Stage, since: u8, state: State) ->
     ensures { λ r. ⌜ r ≡ changed sender frame stage since state ⌝ }
 {
     let link = sender.link;
+    let job = sender.job;
     Sender {
         link,
         source: sender.source,
         destination: sender.destination,
         size: sender.size,
+        job,
         frame,
         stage,
         since,

@@ -7,6 +7,7 @@ pub(crate) fn next_stage(stage: Stage) -> Stage
     ensures { λ r. ⌜ r ≡ nextStage stage ⌝ }
 {
     match stage {
+        Stage::Setup => Stage::Frame,
         Stage::Frame => Stage::Compare,
         Stage::Back => Stage::Compare,
         Stage::Compare => Stage::Take,
@@ -19,6 +20,7 @@ pub(crate) fn is_last_stage(stage: Stage) -> bool
     ensures { λ r. ⌜ r ≡ isLastStage stage ⌝ }
 {
     match stage {
+        Stage::Setup => false,
         Stage::Frame => false,
         Stage::Back => false,
         Stage::Compare => false,

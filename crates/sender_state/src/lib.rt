@@ -31,6 +31,7 @@ fn request_kind(stage: Stage) -> Kind
     ensures { λ r. ⌜ r ≡ requestKind stage ⌝ }
 {
     match stage {
+        Stage::Setup => Kind::Telecommand,
         Stage::Frame => Kind::Telecommand,
         Stage::Back => Kind::Telecommand,
         Stage::Compare => Kind::TelemetryRequest,
@@ -43,6 +44,7 @@ fn request_id(stage: Stage) -> u8
     ensures { λ r. ⌜ r ≡ requestId stage ⌝ }
 {
     match stage {
+        Stage::Setup => 20,
         Stage::Frame => 22,
         Stage::Back => 22,
         Stage::Compare => 150,

@@ -1,5 +1,5 @@
 -- The sender's request call: what it writes at each stage is legal on every link, so it is under way as the unit will read it.
-use Prim.Native.Nat.{ℕ, zero-le}
+use Prim.Native.Nat.{ℕ, _≤_, zero-le}
 use mathlib.Core.Bool.{Bool, true, false}
 use mathlib.Core.List.{List}
 use mathlib.Core.Path.{_≡_, refl}
@@ -11,13 +11,17 @@ use Rattle.message_rules.specs.Answer.{Answer, given, require, after, within, a
 use Rattle.message_rules.specs.Checks.{idLegal, payloadLegal, errorLegal, fieldChecks, errorTold}
 use Rattle.message_rules.specs.Kinds.{inside}
 use Rattle.little_endian_rules.proofs.Laws.{to-length}
+use Rattle.file_rules.specs.Setup.{setupPayload}
+use Rattle.file_rules.specs.declared.Job.{Job}
+use Rattle.file_rules.specs.declared.Job.the-variants as Job·of
+use Rattle.file_rules.proofs.Setup.{written-length}
 use Rattle.link_rules.proofs.RoundTrip.{Underway, Arrives}
 use Rattle.sender_rules.specs.Sender.{requestKind, requestId, requestPayload, requestMessage, sameFile, request}
 use Rattle.round_rules.specs.Requester.{sent, shared, lent}
 use Rattle.sender_rules.specs.Sending.{sending}
 use Rattle.sender_rules.specs.declared.Sender.{Sender}
 use Rattle.sender_rules.specs.declared.Stage.{Stage}
-use Rattle.sender_rules.specs.declared.Stage.the-variants.{Frame, Back, Compare, Take, Confirm}
+use Rattle.sender_rules.specs.declared.Stage.the-variants.{Setup, Frame, Back, Compare, Take, Confirm}
 use Rattle.round_rules.specs.declared.State.the-variants.{Running}
 use Rattle.round_rules.specs.World.{World, asks, bytesOr, does, isRefused, answerCheck, isFailed, callCheck}
 use Rattle.upload_rules.proofs.Exchange.{requestOf, requestAt, Plain, request-arrives}
@@ -33,22 +37,28 @@ unrefused out x a b e h = rw e (by (leb (length b) (length out)) refl (rw e at h
     by true q h = rw q
     by false q h = absurd (let z : _≡_ {A = ℕ} 0 1 = cc (rw q at h) in omega arith)
 
--- Every request is legal for its kind.
-request-plain : (stage : Stage) (s t : ℕ) (file : List ℕ) (f : ℕ) → Plain (requestOf (requestKind stage) (requestId stage) s t) (requestPayload stage file f)
-unfolding errorTold fieldChecks idLegal payloadLegal errorLegal inside require requestPayload
-request-plain Frame s t file f = record { plain = refl; tells = refl; fields = rw (le-leb 0 _ zero-le, le-leb _ 256 (frame-most file f)) }
-request-plain Back s t file f = record { plain = refl; tells = refl; fields = rw (le-leb 0 _ zero-le, le-leb _ 256 (frame-most file f)) }
-request-plain Compare s t file f = record { plain = refl; tells = refl; fields = refl }
-request-plain Take s t file f = record { plain = refl; tells = refl; fields = rw (to-length 2 f) }
-request-plain Confirm s t file f = record { plain = refl; tells = refl; fields = refl }
+-- Every request is legal for its kind: a setup has few bytes.
+setup-most : (n : ℕ) (job : Job) → length (setupPayload n job) ≤ 256
+unfolding setupPayload
+setup-most n Job·of.None = omega arith
+setup-most n (Job·of.Number number) = omega (arith, written-length n number)
 
-request-sent : (u : Upload) (stage : Stage) (f : ℕ) → Arrives (u .unit .link) (requestAt (u .source) (u .destination) stage) (requestPayload stage (u .file) f)
+request-plain : (stage : Stage) (s t : ℕ) (job : Job) (file : List ℕ) (f : ℕ) → Plain (requestOf (requestKind stage) (requestId stage) s t) (requestPayload stage job file f)
+unfolding errorTold fieldChecks idLegal payloadLegal errorLegal inside require requestPayload
+request-plain Setup s t job file f = record { plain = refl; tells = refl; fields = rw (le-leb 0 _ zero-le, le-leb _ 256 (setup-most (length file) job)) }
+request-plain Frame s t job file f = record { plain = refl; tells = refl; fields = rw (le-leb 0 _ zero-le, le-leb _ 256 (frame-most file f)) }
+request-plain Back s t job file f = record { plain = refl; tells = refl; fields = rw (le-leb 0 _ zero-le, le-leb _ 256 (frame-most file f)) }
+request-plain Compare s t job file f = record { plain = refl; tells = refl; fields = refl }
+request-plain Take s t job file f = record { plain = refl; tells = refl; fields = rw (to-length 2 f) }
+request-plain Confirm s t job file f = record { plain = refl; tells = refl; fields = refl }
+
+request-sent : (u : Upload) (stage : Stage) (f : ℕ) → Arrives (u .unit .link) (requestAt (u .source) (u .destination) stage) (requestPayload stage (u .job) (u .file) f)
 request-sent u stage f =
-    request-arrives (u .unit .link) (u .source) (u .destination) (u .unit .own) (requestId stage) (requestKind stage) (requestPayload stage (u .file) f) (u .addressed) (request-plain stage (u .source) (u .destination) (u .file) f)
+    request-arrives (u .unit .link) (u .source) (u .destination) (u .unit .own) (requestId stage) (requestKind stage) (requestPayload stage (u .job) (u .file) f) (u .addressed) (request-plain stage (u .source) (u .destination) (u .job) (u .file) f)
 
 -- The request of a running sender.
 pub asks-bytes : (u : Upload) (s : Sender) (stage : Stage) (f since rounds : ℕ) → s ≡ sender u f stage since rounds Running
-    → (b : List ℕ) × (request s (u .file) ≡ given sent b) × Underway (u .unit .link) (requestAt (u .source) (u .destination) stage) (requestPayload stage (u .file) f) b
+    → (b : List ℕ) × (request s (u .file) ≡ given sent b) × Underway (u .unit .link) (requestAt (u .source) (u .destination) stage) (requestPayload stage (u .job) (u .file) f) b
 unfolding request requestMessage sameFile about after require
 asks-bytes u s stage f since rounds e =
     let sent = request-sent u stage f in

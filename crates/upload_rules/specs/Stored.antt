@@ -2,7 +2,7 @@
 -- a work step after it, neither refused." It is counted from the calls, whatever the unit did with them.
 use Prim.Native.Nat.{ℕ, zero, suc, _+_}
 use mathlib.Core.Bool.{Bool, true, false, cond, _&&_}
-use mathlib.Core.List.{List, [], _∷_}
+use mathlib.Core.List.{List}
 use lib.Dec.{eqb}
 use lib.ListN.{length}
 use Rattle.message_rules.specs.Answer.{Answer, refused, given}
@@ -10,7 +10,7 @@ use Rattle.message_rules.specs.Kinds.{isTelecommand}
 use Rattle.message_rules.specs.declared.Message.{Message}
 use Rattle.little_endian_rules.specs.LittleEndian.{fromBytes}
 use Rattle.link_rules.specs.Link.{linkRead}
-use Rattle.round_rules.specs.World.{World, Call, works, asks, arrives, hears, makes, starts, does, isRefused}
+use Rattle.round_rules.specs.World.{World, Call, works, asks, arrives, hears, makes, starts, told}
 use Rattle.round_rules.specs.Requester.{Requester}
 
 -- What the calls so far mean for a frame: nothing, its take frame has arrived, or it has and had a work step after it.
@@ -43,11 +43,6 @@ markCall i w (hears l b) m = m
 markCall i w (makes l own) m = m
 markCall i w (starts s) m = m
 
--- A refused call counts for nothing.
-unfoldable pub markAfter : {S : Type 0} → Requester S → World S → List Call → ℕ → Mark → Mark
-markAfter a w [] i m = m
-markAfter a w (c ∷ h) i m = markAfter a (does a w c) h i (cond (isRefused a w c) m (markCall i w c m))
-
 unfoldable pub isStored : Mark → Bool
 isStored waiting = false
 isStored taken = false
@@ -60,4 +55,4 @@ countStored f (suc n) = cond (isStored (f n)) 1 0 + countStored f n
 
 -- k: of the file's frames, so many.
 unfoldable pub framesStored : {S : Type 0} → Requester S → World S → List Call → ℕ → ℕ
-framesStored a w h frames = countStored (λ i. markAfter a w h i waiting) frames
+framesStored a w h frames = countStored (λ i. told a (markCall i) w h waiting) frames

@@ -64,8 +64,8 @@ part-put-end c = search needs
 put-requires : tie.Need-put-requires
 put-requires c κs = search needs
 
-frame-stored-requires : tie.Need-frame-stored-requires
-frame-stored-requires c κs =
+unit-stored-requires : tie.Need-unit-stored-requires
+unit-stored-requires c κs =
     let tested = c .before .before .before .before .before .before .before .before in
     room (unit tested) (lent tested) (roomy tested) .1
 
@@ -76,7 +76,7 @@ returns-3 : tie.Need-returns-3
 returns-3 c =
     let tested = c .before .before .before .before .before .before .before .before .before in
     let e = rw (part-from, c .before .before .before .before .before .before .before .buffered-length .ensures, frame-of-buffer (unit tested .transfer)) at (c .before .before .before .put .ensures) in
-    rw (put-from _ _ _ (starts tested), c .frame-stored .ensures) (stored-gives _ _ _ (not-false _ (tested .before .before .if1 .left)) (roomy tested) (e .1))
+    rw (put-from _ _ _ (starts tested), c .unit-stored .ensures) (stored-gives _ _ _ (not-false _ (tested .before .before .if1 .left)) (roomy tested) (e .1))
 
 pub work-spec : {M : Type 1} → statement M
 work-spec =
@@ -93,6 +93,6 @@ work-spec =
     part-put-start
     part-put-end
     put-requires
-    frame-stored-requires
+    unit-stored-requires
     same-length
     returns-3)

@@ -11,10 +11,10 @@ use Rattle.rehearse.proofs.run.run.Tie as tie
 
 abbrev Inv-loop : tie.InvT-loop
 Inv-loop course file store₀ device₀ sender₀ count₀ store device sender count =
-    (count ≤ 13107000) × (length store ≡ length store₀) × Leaves file device₀ store₀ sender₀ course (after device sender count) store
+    (count ≤ 13107050) × (length store ≡ length store₀) × Leaves file device₀ store₀ sender₀ course (after device sender count) store
 
 abbrev μ-loop : tie.MeasureT-loop
-μ-loop course file store₀ device₀ sender₀ count₀ store device sender count = 13107000 - count
+μ-loop course file store₀ device₀ sender₀ count₀ store device sender count = 13107050 - count
 
 loop-holds : tie.Need-loop-holds Inv-loop μ-loop
 loop-holds c = (search needs, refl, none-made _ _ _ _ _)

@@ -17,6 +17,9 @@ enum-told-2 c = search needs
 enum-told-3 : tie.Need-enum-told-3
 enum-told-3 c = search needs
 
+enum-told-4 : tie.Need-enum-told-4
+enum-told-4 c = search needs
+
 file-frame-requires : tie.Need-file-frame-requires
 file-frame-requires c κs = search needs
 
@@ -26,11 +29,11 @@ compared-requires c κs = search needs
 informed-requires : tie.Need-informed-requires
 informed-requires c κs = search needs
 
-enum-told-4 : tie.Need-enum-told-4
-enum-told-4 c = search needs
-
 enum-told-5 : tie.Need-enum-told-5
 enum-told-5 c = search needs
+
+enum-told-6 : tie.Need-enum-told-6
+enum-told-6 c = search needs
 
 confirmed-requires : tie.Need-confirmed-requires
 confirmed-requires c κs = search needs
@@ -48,17 +51,21 @@ returns-3 c = rw (c .enum-told2 .given .1)
 
 returns-4 : tie.Need-returns-4
 unfolding infoMeaning
-returns-4 c =
-    let frame = c .before .before in
-    rw (frame .before .enum-told3 .given .1, ← frame .file-frame .ensures, ← c .before .compared .ensures) (c .informed .ensures)
+returns-4 c = rw (c .enum-told3 .given .1)
 
 returns-5 : tie.Need-returns-5
 unfolding infoMeaning
-returns-5 c = rw (c .enum-told4 .given .1)
+returns-5 c =
+    let frame = c .before .before in
+    rw (frame .before .enum-told4 .given .1, ← frame .file-frame .ensures, ← c .before .compared .ensures) (c .informed .ensures)
 
 returns-6 : tie.Need-returns-6
 unfolding infoMeaning
-returns-6 c = rw (c .before .before .enum-told5 .given .1, ← c .before .confirmed .ensures) (c .informed2 .ensures)
+returns-6 c = rw (c .enum-told5 .given .1)
+
+returns-7 : tie.Need-returns-7
+unfolding infoMeaning
+returns-7 c = rw (c .before .before .enum-told6 .given .1, ← c .before .confirmed .ensures) (c .informed2 .ensures)
 
 pub info-meaning-spec : {M : Type 1} → statement M
 info-meaning-spec =
@@ -68,15 +75,17 @@ info-meaning-spec =
     enum-told
     enum-told-2
     enum-told-3
+    enum-told-4
     file-frame-requires
     compared-requires
     informed-requires
-    enum-told-4
     enum-told-5
+    enum-told-6
     confirmed-requires
     informed-requires-2
     returns-2
     returns-3
     returns-4
     returns-5
-    returns-6)
+    returns-6
+    returns-7)
