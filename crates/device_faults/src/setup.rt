@@ -39,6 +39,7 @@ pub(crate) fn setup_fault(device: Device, store: usize, payload: &[u8]) -> Fault
     Fault::None
 }
 
+// The open job decides, whatever the phase is.
 fn is_repeat(transfer: Transfer, size: u32, number: u32) -> bool
     ensures { λ r. ⌜ r ≡ isRepeat transfer size number ⌝ }
 {

@@ -56,8 +56,8 @@ pub struct UnitAnswer {
     pub verdict: Verdict,
 }
 
-// Why a command is not carried out: for no reason, so that it is; since it is a setup that repeats the open job's, which is acked; or for the
-// error byte and the index of the nack.
+// What keeps a command from being carried out: nothing; that it is a setup which repeats the open job's, and is acked; or a reason, with the error
+// byte and the index of its nack.
 pub enum Fault {
     None,
     Repeat,

@@ -73,7 +73,7 @@ fn unit_stored(device: Device) -> Device
     }
 }
 
-// The size is reached with it.
+// Whether the pending frame is the last: the size is reached with it.
 fn is_last_frame(transfer: Transfer) -> bool
     requires { ⌜ transfer .stored + length (bufferedFrame transfer) ≤ transfer .size ⌝ }
     ensures { λ r. ⌜ r ≡ isLastFrame transfer ⌝ }
@@ -81,7 +81,7 @@ fn is_last_frame(transfer: Transfer) -> bool
     transfer.stored + device_state::buffered_length(transfer) as u32 == transfer.size
 }
 
-// The transfer then; last says whether the frame is the last.
+// The transfer once the frame is stored; `last` says whether it is the last.
 fn frame_stored(transfer: Transfer, last: bool) -> Transfer
     requires { ⌜ transfer .stored + length (bufferedFrame transfer) ≤ transfer .size ⌝ }
     requires { ⌜ last ≡ isLastFrame transfer ⌝ }

@@ -4,6 +4,7 @@ ghost use Rattle.file_rules.specs.Setup.{setupRead, setupBytes};
 use file_rules::SETUP_LENGTH;
 use file_rules::SetupAnswer;
 
+// What a setup's payload says.
 pub fn read(payload: &[u8]) -> SetupAnswer
     ensures { λ r. ⌜ r ≡ setupRead (now (payload .entry)) ⌝ }
 {
@@ -16,6 +17,7 @@ pub fn read(payload: &[u8]) -> SetupAnswer
     )
 }
 
+// The payload of a setup for a file of this size and a job of this number.
 pub fn write(size: u32, number: u32) -> [u8; SETUP_LENGTH]
     ensures { λ r. ⌜ r ≡ setupBytes size number ⌝ }
 {

@@ -72,7 +72,7 @@ pub every-link-starts-job : EveryLinkStartsJob
 unfolding startedWith newDevice noTransfer
 every-link-starts-job l =
     record {
-      ended = refl;
+      notOpen = refl;
       still = refl;
       noneOpen = refl;
       fits = omega arith;
@@ -90,7 +90,7 @@ unfolding startedWith
 every-link-starts-next-job l =
     let left = job-finished l in
     record {
-      ended = left .2;
+      notOpen = left .2;
       still = left .3;
       noneOpen = left .4;
       fits = omega (arith, left .6);

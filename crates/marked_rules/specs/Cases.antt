@@ -78,10 +78,11 @@ withWork f = record { worked = true; fate = f }
 unfoldable pub afterRounds : Link → List Round → World Sender
 afterRounds l rs = run (sending file) (opened l) (scheduled (sending file) (opened l) rs)
 
--- P11: "300 bytes, nothing lost, work always done: 2 frames, 8 rounds, finished."
+-- The world of P11 at its end.
 unfoldable pub allDelivered : Link → World Sender
 allDelivered l = afterRounds l (replicate 8 (withWork Fate·of.Delivered))
 
+-- P11: "300 bytes, nothing lost, work always done: 2 frames, 8 rounds, finished."
 abbrev pub NothingLost : Link → Type 0
 NothingLost l =
     let w = allDelivered l in

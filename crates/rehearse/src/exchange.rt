@@ -1,4 +1,5 @@
-// What the unit answers to a sender's request, by its error byte. The unit that is asked is a copy: the upload goes on with its own.
+// What the unit answers to a sender's request, by its error byte, which no sender keeps. The unit that is asked is a copy: the upload goes on with its
+// own. Request and answer go through an array of 522 bytes each, which every message of every link fits.
 use crate::print;
 use crate::space;
 use device::Device;

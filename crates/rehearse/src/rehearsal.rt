@@ -32,7 +32,7 @@ fn upload(link: Link, name: &[u8], how: &[u8], course: Course, file: &[u8], stor
     match started(link, file.len()) {
         SenderAnswer::Refused(refusal) => print::refused(refusal),
         SenderAnswer::Sender(first) => {
-            let unit = finished(link, first, course, file, store);
+            let unit = first_run(link, first, course, file, store);
             print::heading(name, how, b" again");
             exchange::show(unit, first, file, store);
             to_the_end(unit, first, course, file, store);
@@ -45,7 +45,7 @@ fn started(link: Link, size: usize) -> SenderAnswer {
 }
 
 // The job at an idle unit, which gets its setup from the sender; gives the unit that it leaves.
-fn finished(link: Link, first: Sender, course: Course, file: &[u8], store: &mut [u8]) -> Device {
+fn first_run(link: Link, first: Sender, course: Course, file: &[u8], store: &mut [u8]) -> Device {
     space::clear(space::front_mut(store, file.len()));
     let made = device::make(link, UNIT);
     let unit = made.device;
@@ -62,11 +62,11 @@ fn to_the_end(
 ) -> Device {
     let ran = run::run(unit, first, course, file, store);
     progress::clear(ran.count);
-    ended(ran, check::same(space::front(store, file.len()), file));
+    print_end(ran, check::same(space::front(store, file.len()), file));
     ran.device
 }
 
-fn ended(ran: Ran, same: bool) {
+fn print_end(ran: Ran, same: bool) {
     let verdict = ran.verdict;
     match verdict {
         Verdict::Refused(refusal) => print::refused_round(ran.count, refusal),

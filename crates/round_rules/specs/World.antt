@@ -122,7 +122,7 @@ module _ {S : Type 0} (a : Requester S) where
   unfoldable pub isRefused : World S → Call → Bool
   isRefused w c = isFailed (callCheck w c)
 
-  -- What calls tell one after the other, each by a step of its own. A refused call tells nothing.
+  -- What calls tell: `step` leads from what was told before a call to what is told after it. A refused call tells nothing.
   unfoldable pub told : {T : Type 0} → (World S → Call → T → T) → World S → List Call → T → T
   told step w [] t = t
   told step w (c ∷ h) t = told step (does w c) h (cond (isRefused w c) t (step w c t))

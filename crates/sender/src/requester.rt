@@ -34,6 +34,7 @@ pub fn request(sender: Sender, file: &[u8], out: &mut [u8]) -> RequestAnswer
     let link = sender.link;
     let stage = sender.stage;
     let job = sender.job;
+    // Made at every stage: a payload is lent, so its bytes must be there before the stage chooses.
     let setup = setup_bytes(sender.size, job);
     let number = little_endian::u32_to_bytes(sender.frame);
     let payload = request_payload(stage, job, file, sender.frame, &setup, &number[..2]);

@@ -188,7 +188,7 @@ module _ (file : List ℕ) (w : World Sender) where
     job-taken =
         let legal = size-checked (w .device) job (st .source) (st .destination) (st .started) in
         let new = setup-unnamed (length file) (st .number) (w .device) (length (w .store)) (rw (st .noneOpen)) in
-        setup-fits (length file) (st .number) (w .device) (length (w .store)) new (st .still) (st .ended) (other-job (w .device .finished) (st .number) (st .unfinished)) legal (st .fits)
+        setup-fits (length file) (st .number) (w .device) (length (w .store)) new (st .still) (st .notOpen) (other-job (w .device .finished) (st .number) (st .unfinished)) legal (st .fits)
 
     with-job : Begun
     with-job = stands-first (w .device) job (st .source) (st .destination) (st .started) (st .addressed) (st .number) (refl, st .small) job-taken closed refl refl refl refl (refl, refl) tt refl

@@ -53,8 +53,9 @@ pub record AcceptedSetup (file : List ℕ) (w : World Sender) : Type 0 where
   pub number : ℕ
   pub announces : setupRead payload ≡ Setup (length file) number
   pub forUnit : addressing (unit .link) (unit .own) message ≡ Other → ⊥
-  -- no fault kept the unit from carrying it out, and it was no repeat: "an acked repeat doesn't count as its accepted setup" (document 02, ticket 5); the call was not refused (the reply says whether it was answered, and the answer has the bytes, none
-  -- in silence), and w has the unit that it left;
+  -- no fault kept the unit from carrying it out, and it was no repeat: "an acked repeat doesn't count as its accepted setup" (document 02,
+  -- ticket 5); the call was not refused (the reply says whether it was answered, and the answer has the bytes, none in silence), and w has the unit
+  -- that it left;
   pub noFault : commandFault unit (length (w .store)) (message .id) payload ≡ None
   pub reply : Reply
   pub answer : List ℕ
@@ -69,7 +70,7 @@ pub record AcceptedSetup (file : List ℕ) (w : World Sender) : Type 0 where
 -- Document 02, ticket 5: "Demand 3 may then begin there, its premises running from that sender's start,
 pub record StartedJob (file : List ℕ) (w : World Sender) : Type 0 where
   -- for a unit that is idle or finished with nothing pending and no job open", everything else of it free,
-  pub ended : isOpen (w .device .transfer .phase) ≡ false
+  pub notOpen : isOpen (w .device .transfer .phase) ≡ false
   pub still : w .device .transfer .pending ≡ false
   pub noneOpen : w .device .transfer .job ≡ Job·of.None
   -- "a size that fits its store,

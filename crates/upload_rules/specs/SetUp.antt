@@ -18,6 +18,7 @@ unfoldable pub isSetup : Answer Message (List ℕ) → Bool
 isSetup (refused n) = false
 isSetup (given m p) = isTelecommand (m .kind) && eqb (m .id) 20
 
+-- What a call tells of it: a setup that arrives has arrived, and every other call leaves it as it was.
 unfoldable pub setUpCall : {S : Type 0} → World S → Call → Bool → Bool
 setUpCall w (works l) t = t
 setUpCall w (asks l out) t = t
@@ -26,7 +27,7 @@ setUpCall w (hears l b) t = t
 setUpCall w (makes l own) t = t
 setUpCall w (starts s) t = t
 
--- At first it lies behind a sender that was started without a job, and one with a job has it to send.
+-- A sender without a job begins after the setup; one with a job has yet to send it.
 abbrev pub setUpFirst : Job → Bool
 setUpFirst None = true
 setUpFirst (Number n) = false
