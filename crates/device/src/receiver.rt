@@ -234,15 +234,15 @@ fn info_bytes(transfer: Transfer) -> [u8; 7]
     let length = device_state::buffered_length(transfer);
     let number = little_endian::u16_to_bytes(transfer.number);
     let size = little_endian::u16_to_bytes(length as u16);
-    let sum = little_endian::u16_to_bytes(file_checksum::checksum(&buffer[..length]));
+    let checksum = little_endian::u16_to_bytes(file_checksum::checksum(&buffer[..length]));
     let phase = transfer.phase;
     [
         number[0],
         number[1],
         size[0],
         size[1],
-        sum[0],
-        sum[1],
+        checksum[0],
+        checksum[1],
         flags(phase),
     ]
 }

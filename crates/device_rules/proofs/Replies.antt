@@ -1,8 +1,11 @@
 -- What the unit answers to each kind of request: carried by the definitions of the answers, opened.
 use Prim.Native.Nat.{ℕ}
-use mathlib.Core.List.{List, []}
+use mathlib.Core.List.{List, [], _∷_}
 use mathlib.Core.Path.{_≡_, refl}
+use native.Mathlib.Omega.{arith}
 use borrow.Author.Tests.{eq-eqb, ne-eqb}
+use lib.ListN.{take, drop}
+use Rattle.little_endian_rules.specs.LittleEndian.{fromBytes, toBytes}
 use Rattle.message_rules.specs.Answer.{about}
 use Rattle.message_rules.specs.declared.ErrorByte.the-variants.{Told}
 use Rattle.message_rules.specs.declared.Kind.{Kind}
@@ -10,8 +13,13 @@ use Rattle.message_rules.specs.declared.Kind.the-variants.{Telecommand, Telecom
 use Rattle.message_rules.specs.declared.Message.{Message}
 use Rattle.link_rules.specs.Link.{linkWrite}
 use Rattle.link_rules.specs.declared.Link.{Link}
+use Rattle.file_rules.specs.Checksum.{checksum}
+use Rattle.file_rules.proofs.Checksum.{checksum-below}
+use Rattle.file_rules.proofs.CheckValue.{empty-checksum}
+use Rattle.device_rules.specs.Device.{bufferedFrame}
 use Rattle.device_rules.specs.declared.Device.{Device}
 use Rattle.device_rules.specs.declared.Fault.the-variants.{None, Repeat, Nack}
+use Rattle.device_rules.specs.declared.Transfer.{Transfer}
 use Rattle.device_rules.specs.Commands.{commandDone, afterCommand}
 use Rattle.device_rules.specs.Faults.{commandFault}
 use Rattle.device_rules.specs.Receive.{answers, answerSource, answerTo, infoBytes, silence, commandAnswer, commandReply, telecommandReply, telemetryReply, kindReply}
@@ -72,3 +80,13 @@ module _ (d : Device) (m : Message) where
   pub telemetry-nacked : (m .id ≡ 150 → ⊥) → telemetryReply d m ≡ about (answers d) (linkWrite (d .link) (answer TelemetryNack 1 0) [])
   unfolding telemetryReply answerTo
   telemetry-nacked other = rw (ne-eqb (m .id) 150 other)
+
+-- Frame info tells the checksum of the buffered bytes, and "the empty buffer's checksum becomes 0xFFFF" (document 02, ticket 6).
+module _ (t : Transfer) where
+  pub info-checksum : fromBytes (take 2 (drop 4 (infoBytes t))) ≡ checksum (bufferedFrame t)
+  unfolding infoBytes toBytes fromBytes
+  info-checksum = omega (arith, checksum-below (bufferedFrame t))
+
+  pub empty-info : bufferedFrame t ≡ [] → take 2 (drop 4 (infoBytes t)) ≡ 0xFF ∷ 0xFF ∷ []
+  unfolding infoBytes toBytes
+  empty-info h = rw (h, empty-checksum)

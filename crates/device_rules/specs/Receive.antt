@@ -51,7 +51,8 @@ unfoldable pub answerTo : Device → Message → Kind → ℕ → ℕ → Messag
 answerTo d m k e i =
     record { kind = k; id = m .id; source = answerSource (d .link) (d .own) m; destination = m .source; error = Told e; index = i }
 
--- "Frame info answers seven bytes: number, buffered size, checksum, each 2 bytes, then flags: bit 0 set when finished."
+-- "Frame info answers seven bytes: number, buffered size, checksum, each 2 bytes, then flags: bit 0 set when finished." The checksum "replaces the
+-- sum in frame info" (document 02, ticket 6).
 unfoldable pub infoBytes : Transfer → List ℕ
 infoBytes t =
     toBytes 2 (t .number) ++ (toBytes 2 (length (bufferedFrame t)) ++ (toBytes 2 (checksum (bufferedFrame t)) ++ (cond (isFinished (t .phase)) 1 0 ∷ [])))

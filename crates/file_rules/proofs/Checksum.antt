@@ -1,28 +1,24 @@
--- What unit and sender know of the checksum: it is below 65,536; of a frame's bytes it is their sum, at most 65,280.
-use Prim.Native.Nat.{ℕ, _+_, _*_, _%_, _≤_, _<_}
-use mathlib.Core.List.{List, [], _∷_}
-use mathlib.Core.Path.{_≡_}
+-- The checksum is below 65,536, and goes on from byte to byte: carried by the register's steps.
+use Prim.Native.Nat.{ℕ, _+_, _<_}
+use mathlib.Core.List.{List, [], _∷_, _++_}
+use mathlib.Core.Path.{_≡_, refl}
 use native.Mathlib.Omega.{arith}
 use native.Mathlib.Numerals.{add-one}
 use lib.ListN.{length, getD, drop}
 use lib.Seq.{drop-cons}
-use Rattle.little_endian_rules.specs.LittleEndian.{Bytes}
-use Rattle.file_rules.specs.Checksum.{sum, checksum}
+use Rattle.file_rules.specs.Checksum.{allOnes, byteStep, byteSteps, checksum}
+use Rattle.file_rules.proofs.Linear.{bytes-below}
 
 pub checksum-below : (s : List ℕ) → checksum s < 65536
 unfolding checksum
-checksum-below s = omega arith
+checksum-below s = bytes-below allOnes s (omega arith)
 
-sum-most : (s : List ℕ) → Bytes s → sum s ≤ length s * 255
-unfolding sum
-sum-most [] h = omega arith
-sum-most (b ∷ s) h = omega (arith, h .0, sum-most s (h .1))
-
-pub frame-sum : (s : List ℕ) → Bytes s → length s ≤ 256 → (checksum s ≡ sum s) × (checksum s ≤ 65280)
-unfolding checksum
-frame-sum s h k = (omega (arith, sum-most s h), omega (arith, sum-most s h))
+pub bytes-append : (register : ℕ) (s t : List ℕ) → byteSteps register (s ++ t) ≡ byteSteps (byteSteps register s) t
+unfolding byteSteps
+bytes-append register [] t = refl
+bytes-append register (b ∷ s) t = bytes-append (byteStep register b) s t
 
 -- One more byte of what is left.
-pub sum-turn : (s : List ℕ) (i acc : ℕ) → i < length s → ((acc + getD s i 0) % 65536 + sum (drop (i + 1) s)) % 65536 ≡ (acc + sum (drop i s)) % 65536
-unfolding sum
-sum-turn s i acc h = rw (drop-cons s i 0 h, add-one) (omega arith)
+pub bytes-turn : (s : List ℕ) (i register : ℕ) → i < length s → byteSteps (byteStep register (getD s i 0)) (drop (i + 1) s) ≡ byteSteps register (drop i s)
+unfolding byteSteps
+bytes-turn s i register h = rw (drop-cons s i 0 h, add-one)

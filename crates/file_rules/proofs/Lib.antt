@@ -1,3 +1,10 @@
 pub mod Frames
+pub mod CheckValue
+pub mod Xor
+pub mod Linear
+pub mod Listed
+pub mod Table
 pub mod Checksum
+pub mod Neighbours
+pub mod Exchanged
 pub mod Setup

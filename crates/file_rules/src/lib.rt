@@ -1,5 +1,6 @@
-// What unit and sender share: the file of an upload in frames (`specs/File.antt`), the frame checksum (`specs/Checksum.antt`), and the setup that
-// announces a file and the job that it belongs to (`specs/Setup.antt`), with their laws. The code is `file_frames`, `file_checksum` and `file_setup`.
+// What unit and sender share: the file of an upload in frames (`specs/File.antt`), the frame checksum (`specs/Checksum.antt`) and the errors that it
+// is sure to detect (`specs/Detection.antt`), and the setup that announces a file and the job that it belongs to (`specs/Setup.antt`), with their
+// laws. The code is `file_frames`, `file_checksum` and `file_setup`.
 
 // How many bytes a setup's payload has: the size and the job number.
 pub const SETUP_LENGTH: usize = 8;

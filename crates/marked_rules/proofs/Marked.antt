@@ -55,7 +55,7 @@ unfolding setupOn opened afterRounds allDelivered askedAgain
     can·Can.laterFrames can·Can.allFrames can·Can.canError can·Can.canMessage can·Can.canIdLegal can·Can.canFits can·Can.messageChecks can·Can.complete can·Can.canRead
     link·Link.linkRead link·Link.linkWrite link·Link.linkCarried
     file·File.sizeLegal file·File.frameCount file·File.fileFrame
-    file·Checksum.sum file·Checksum.checksum
+    file·Checksum.bitStep file·Checksum.bitSteps file·Checksum.highFirst file·Checksum.byteStep file·Checksum.byteSteps file·Checksum.checksum
     file·Setup.setupBytes file·Setup.setupRead
     device·Device.bufferedFrame device·Device.noTransfer device·Device.newDevice
     device·Faults.fault device·Faults.isRepeat device·Faults.setupFault device·Faults.isLastStored device·Faults.isOutOfSequence device·Faults.takeFault device·Faults.frameFault

@@ -43,9 +43,10 @@ commandBytes n = bytesOr [] (canWrite (plain Telecommand 12 16 17) (replicate n 
 abbrev pub lastDlc : List ℕ → ℕ
 lastDlc b = getD b (length b - 13 + 4) 0
 
--- P11 and P12: a file of 300 bytes, and a unit with own address 31 that its setup opened, with 303 bytes to store in.
+-- P11 and P12: a file of 300 bytes, and a unit with own address 31 that its setup opened, with 303 bytes to store in. Each frame begins with FF FF
+-- and zeros, which take the checksum's register to 0 and keep it there: with 256 times 1F the checker comes to its step limit.
 abbrev pub file : List ℕ
-file = replicate 256 0x1F ++ replicate 44 7
+file = 0xFF ∷ 0xFF ∷ (replicate 252 0 ++ (0x1F ∷ 0x1F ∷ 0xFF ∷ 0xFF ∷ replicate 42 0))
 
 abbrev pub emptyStore : List ℕ
 emptyStore = replicate 303 0xA5

@@ -44,14 +44,14 @@ module _ (p : List ℕ) (seven : length p ≡ 7) where
     unfolding compared
     other-size h = rw (two-at p 2 (omega arith), ← is-size, ne-eqb size (length frame) h)
 
-    module _ (same : size ≡ length frame) (sum : ℕ) (is-sum : sum ≡ fromBytes (getD p 4 0 ∷ getD p 5 0 ∷ [])) where
-      pub other-sum : (sum ≡ checksum frame → ⊥) → Differs ≡ compared frame p
+    module _ (same : size ≡ length frame) (check : ℕ) (is-check : check ≡ fromBytes (getD p 4 0 ∷ getD p 5 0 ∷ [])) where
+      pub other-checksum : (check ≡ checksum frame → ⊥) → Differs ≡ compared frame p
       unfolding compared
-      other-sum h = rw (two-at p 2 (omega arith), ← is-size, eq-eqb size (length frame) same, two-at p 4 (omega arith), ← is-sum, ne-eqb sum (checksum frame) h)
+      other-checksum h = rw (two-at p 2 (omega arith), ← is-size, eq-eqb size (length frame) same, two-at p 4 (omega arith), ← is-check, ne-eqb check (checksum frame) h)
 
-      pub same-frame : sum ≡ checksum frame → Forward ≡ compared frame p
+      pub same-frame : check ≡ checksum frame → Forward ≡ compared frame p
       unfolding compared
-      same-frame e = rw (two-at p 2 (omega arith), ← is-size, eq-eqb size (length frame) same, two-at p 4 (omega arith), ← is-sum, eq-eqb sum (checksum frame) e)
+      same-frame e = rw (two-at p 2 (omega arith), ← is-size, eq-eqb size (length frame) same, two-at p 4 (omega arith), ← is-check, eq-eqb check (checksum frame) e)
 
   module _ (i number : ℕ) (is-number : number ≡ fromBytes (getD p 0 0 ∷ getD p 1 0 ∷ [])) where
     pub other-number : (number ≡ i → ⊥) → Stay ≡ confirmed i p
@@ -93,15 +93,15 @@ pub info-compared : (number : ℕ) (frame : List ℕ) (flags : ℕ) → length f
 unfolding informed compared
 info-compared number frame flags most clear =
     let size = length frame in
-    let sum = checksum frame in
+    let check = checksum frame in
     rw (
-      info-length number size sum flags,
-      info-flags number size sum flags,
+      info-length number size check flags,
+      info-flags number size check flags,
       clear,
-      info-size number size sum flags (omega arith),
+      info-size number size check flags (omega arith),
       eq-eqb size size refl,
-      info-checksum number size sum flags (checksum-below frame),
-      eq-eqb sum sum refl,
+      info-checksum number size check flags (checksum-below frame),
+      eq-eqb check check refl,
     )
 
 -- and at D one with the frame's number, and no other.

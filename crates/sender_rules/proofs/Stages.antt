@@ -1,8 +1,8 @@
--- Document 01's sentences on the stages, each a law of the definitions: carried by computing them from what the sentence supposes.
+-- The papers' sentences on the stages, each a law of the definitions: carried by computing them from what the sentence supposes.
 use Prim.Native.Nat.{ℕ, _+_, _<_}
 use mathlib.Core.Bool.{true, false}
 use mathlib.Core.List.{List, []}
-use mathlib.Core.Path.{_≡_, refl}
+use mathlib.Core.Path.{_≡_, refl, sym, ap, _∙_}
 use native.Mathlib.Omega.{arith}
 use borrow.Author.Tests.{eq-eqb, ne-eqb, lt-ltb, le-ltb}
 use lib.ListN.{length}
@@ -12,8 +12,11 @@ use Rattle.message_rules.specs.declared.ErrorByte.the-variants.{Told, NotTold}
 use Rattle.message_rules.specs.declared.Kind.the-variants.{TelecommandAck, TelecommandNack, TelemetryResponse}
 use Rattle.message_rules.specs.declared.Message.{Message}
 use Rattle.file_rules.specs.Checksum.{checksum}
+use Rattle.file_rules.specs.Detection.{withTwo}
 use Rattle.file_rules.specs.File.{frameCount, fileFrame}
 use Rattle.file_rules.specs.declared.Job.the-variants.{None, Number}
+use Rattle.file_rules.proofs.Frames.{frame-most}
+use Rattle.file_rules.proofs.Exchanged.{exchanged-detected}
 use Rattle.link_rules.specs.Link.{linkRead, carriesError}
 use Rattle.link_rules.specs.declared.Link.{Link}
 use Rattle.link_rules.specs.declared.Link.the-variants.{Uart, Rs485, Can, Csp}
@@ -86,15 +89,23 @@ module _ (s : Sender) (file : List ℕ) (m : Message) (p : List ℕ) (fit : fits
     -- B: "Size and checksum equal: C. Differing: back to A."
     pub equal-c : s .stage ≡ Compare → infoError p ≡ false → infoSize p ≡ length (fileFrame file (s .frame)) → infoChecksum p ≡ checksum (fileFrame file (s .frame)) → next .stage ≡ Take
     unfolding meaning kindMeaning infoMeaning informed compared roundOver advanced
-    equal-c at clear size sum = rw (fit, info, at, eq-eqb (length p) 7 seven, clear, eq-eqb _ _ size, eq-eqb _ _ sum)
+    equal-c at clear size check = rw (fit, info, at, eq-eqb (length p) 7 seven, clear, eq-eqb _ _ size, eq-eqb _ _ check)
 
     pub differing-a : s .stage ≡ Compare → infoError p ≡ false → (infoSize p ≡ length (fileFrame file (s .frame)) → ⊥) → next .stage ≡ Back
     unfolding meaning kindMeaning infoMeaning informed compared roundOver waited
     differing-a at clear size = rw (fit, info, at, eq-eqb (length p) 7 seven, clear, ne-eqb _ _ size)
 
-    pub differing-sum : s .stage ≡ Compare → infoError p ≡ false → infoSize p ≡ length (fileFrame file (s .frame)) → (infoChecksum p ≡ checksum (fileFrame file (s .frame)) → ⊥) → next .stage ≡ Back
+    pub differing-checksum : s .stage ≡ Compare → infoError p ≡ false → infoSize p ≡ length (fileFrame file (s .frame)) → (infoChecksum p ≡ checksum (fileFrame file (s .frame)) → ⊥) → next .stage ≡ Back
     unfolding meaning kindMeaning infoMeaning informed compared roundOver waited
-    differing-sum at clear size sum = rw (fit, info, at, eq-eqb (length p) 7 seven, clear, eq-eqb _ _ size, ne-eqb _ _ sum)
+    differing-checksum at clear size check = rw (fit, info, at, eq-eqb (length p) 7 seven, clear, eq-eqb _ _ size, ne-eqb _ _ check)
+
+    -- So two exchanged bytes lead back to A (document 02, ticket 6: "A byte sum misses two exchanged bytes.").
+    pub exchanged-a : (front between back : List ℕ) (a b : ℕ) → a < 256 → b < 256 → (a ≡ b → ⊥) → fileFrame file (s .frame) ≡ withTwo front a between b back
+        → s .stage ≡ Compare → infoError p ≡ false → infoSize p ≡ length (fileFrame file (s .frame)) → infoChecksum p ≡ checksum (withTwo front b between a back)
+        → next .stage ≡ Back
+    exchanged-a front between back a b ha hb differ is at clear size check =
+        let few = rw is at (frame-most file (s .frame)) in
+        differing-checksum at clear size (λ e. exchanged-detected front between back a b ha hb few differ (sym (ap checksum is) ∙ sym e ∙ check))
 
     -- D: "Number i: A for the next frame,
     pub number-next : s .stage ≡ Confirm → infoError p ≡ false → infoNumber p ≡ s .frame → s .frame + 1 < frameCount (s .size) → (next .stage ≡ Frame) × (next .frame ≡ s .frame + 1)

@@ -52,7 +52,7 @@ infoChecksum p = fromBytes (take 2 (drop 4 p))
 abbrev pub infoError : List ℕ → Bool
 infoError p = eqb (getD p 6 0 / 2 % 2) 1
 
--- B: "Size and checksum equal: C. Differing: back to A."
+-- B: "Size and checksum equal: C. Differing: back to A." The checksum "replaces the sum [..] at stage B" (document 02, ticket 6).
 unfoldable pub compared : List ℕ → List ℕ → Meaning
 compared frame p = cond (eqb (infoSize p) (length frame) && eqb (infoChecksum p) (checksum frame)) Forward Differs
 

@@ -16,6 +16,7 @@ use Rattle.file_rules.specs.Setup.{setupRead, setupPayload}
 use Rattle.file_rules.specs.declared.Job.{Job}
 use Rattle.file_rules.specs.declared.Job.the-variants as Job·of
 use Rattle.file_rules.specs.declared.SetupAnswer.the-variants as SetupAnswer·of
+use Rattle.file_rules.proofs.Frames.{frame-most}
 use Rattle.file_rules.proofs.Setup.{written-read}
 use Rattle.link_rules.specs.Link.{linkCarried, linkRead}
 use Rattle.device_rules.specs.Device.{emptyBuffer}
@@ -31,7 +32,7 @@ use Rattle.upload_rules.specs.Stored.{isTake, markTaken}
 use Rattle.upload_rules.proofs.Exchange.{requestRead}
 use Rattle.sender_rules.proofs.Sizes.{count-legal}
 use Rattle.sender_rules.proofs.Steps.{JobAt}
-use Rattle.upload_rules.proofs.Files.{frame-some, frame-most, remains}
+use Rattle.upload_rules.proofs.Files.{frame-some, remains}
 use Rattle.upload_rules.proofs.Served.{Served, served-setup, served-repeat, served-frame, served-compare, served-take, served-pending, served-stored, served-waiting, served-confirmed}
 use Rattle.upload_rules.proofs.Table.{Announces, Upload, Situation, closed, free, loaded, pending, isSetUp, Stands, Quiet, Leads, markOf, frames, Holding, storedUnit, unitIn, sender}
 

@@ -14,6 +14,7 @@ use Rattle.little_endian_rules.proofs.Laws.{to-length}
 use Rattle.file_rules.specs.Setup.{setupPayload}
 use Rattle.file_rules.specs.declared.Job.{Job}
 use Rattle.file_rules.specs.declared.Job.the-variants as Job·of
+use Rattle.file_rules.proofs.Frames.{frame-most}
 use Rattle.file_rules.proofs.Setup.{written-length}
 use Rattle.link_rules.proofs.RoundTrip.{Underway, Arrives}
 use Rattle.sender_rules.specs.Sender.{requestKind, requestId, requestPayload, requestMessage, sameFile, request}
@@ -25,7 +26,6 @@ use Rattle.sender_rules.specs.declared.Stage.the-variants.{Setup, Frame, Back, 
 use Rattle.round_rules.specs.declared.State.the-variants.{Running}
 use Rattle.round_rules.specs.World.{World, asks, bytesOr, does, isRefused, answerCheck, isFailed, callCheck}
 use Rattle.upload_rules.proofs.Exchange.{requestOf, requestAt, Plain, request-arrives}
-use Rattle.upload_rules.proofs.Files.{frame-most}
 use Rattle.upload_rules.proofs.Table.{Upload, sender, Asked}
 
 -- An answer that is not refused for want of room is the answer.

@@ -10,23 +10,17 @@ use lib.Dec.{eqb}
 use lib.ListN.{length, take, drop, length-append, length-take, length-drop}
 use lib.Seq.{take-add, take-all, take-at, drop-at, drop-drop}
 use Rattle.file_rules.specs.File.{frameCount, fileFrame}
+use Rattle.file_rules.proofs.Frames.{frame-length}
 
 module _ (file : List ℕ) where
   module _ (i : ℕ) where
-    pub frame-length : length (fileFrame file i) ≡ min 256 (length file - 256 * i)
-    unfolding fileFrame
-    frame-length = simp (length-take, length-drop)
-
-    pub frame-most : length (fileFrame file i) ≤ 256
-    frame-most = rw frame-length (omega arith)
-
     pub frame-some : i < frameCount (length file) → 1 ≤ length (fileFrame file i)
     unfolding frameCount
-    frame-some h = rw frame-length (omega arith)
+    frame-some h = rw (frame-length file i) (omega arith)
 
     -- What counts as stored, with one more frame.
     pub stored-next : min (256 * i) (length file) + length (fileFrame file i) ≡ min (256 * (i + 1)) (length file)
-    stored-next = rw frame-length (omega arith)
+    stored-next = rw (frame-length file i) (omega arith)
 
     -- The file's size is reached with the last frame.
     pub size-reached : i < frameCount (length file) → eqb (min (256 * (i + 1)) (length file)) (length file) ≡ eqb (i + 1) (frameCount (length file))
@@ -38,7 +32,7 @@ module _ (file : List ℕ) where
 
     -- A frame is no longer than what is not stored yet.
     pub remains : length (fileFrame file i) ≤ length file - min (256 * i) (length file)
-    remains = rw frame-length (omega arith)
+    remains = rw (frame-length file i) (omega arith)
 
   -- A store with the file's first i frames over its beginning.
   module _ (store : List ℕ) where

@@ -1,31 +1,43 @@
--- Carried by the sum of the bytes that are left: what is added up so far and they give the whole.
-use Prim.Native.Nat.{_+_, _-_, _%_, _≤_, _<_}
-use mathlib.Core.Path.{_≡_, _∙_}
+-- Carried by the bytes that are left: from the register so far they lead to the checksum. The table's entries are computed, all at once.
+use Prim.Native.Nat.{_-_, _≤_, _<_}
+use mathlib.Core.Path.{_≡_, refl, _∙_}
 use native.Mathlib.Omega.{arith}
 use borrow.Author.Needs.{needs}
-use lib.ListN.{length, drop, drop-of-length-le}
-use Rattle.file_rules.specs.Checksum.{sum, checksum}
-use Rattle.file_rules.proofs.Checksum.{sum-turn}
+use lib.ListN.{length, getD, drop, drop-of-length-le}
+use Rattle.file_rules.specs.Checksum.{bitStep, bitSteps, highFirst, byteStep, byteSteps, checksum}
+use Rattle.file_rules.proofs.Linear.{byte-below}
+use Rattle.file_rules.proofs.Table.{Entries, entries, place, by-table}
+use Rattle.file_rules.proofs.Checksum.{bytes-turn}
 use Rattle.file_checksum.proofs.checksum.Statement.{statement}
 use Rattle.file_checksum.proofs.checksum.Tie as tie
 
 abbrev Inv-loop : tie.InvT-loop
-Inv-loop bytes sum₀ i₀ acc i = (i ≤ length bytes) × (acc < 65536) × ((acc + sum (drop i bytes)) % 65536 ≡ sum bytes % 65536)
+Inv-loop bytes table register₀ i₀ register i = (i ≤ length bytes) × (byteSteps register (drop i bytes) ≡ checksum bytes) × (register < 65536) × Entries table
 
 abbrev μ-loop : tie.MeasureT-loop
-μ-loop bytes sum₀ i₀ acc i = length bytes - i
+μ-loop bytes table register₀ i₀ register i = length bytes - i
 
 loop-holds : tie.Need-loop-holds Inv-loop μ-loop
-loop-holds c = search needs
+unfolding checksum byteStep bitSteps highFirst bitStep
+loop-holds c = (omega arith, refl, omega arith, entries _ refl)
 
-shared-slice-read-wrapping-add-u16 : tie.Need-shared-slice-read-wrapping-add-u16 Inv-loop μ-loop
-shared-slice-read-wrapping-add-u16 c = search needs
+shared-slice-read-place : tie.Need-shared-slice-read-place Inv-loop μ-loop
+shared-slice-read-place c = search needs
 
-cast-wrapping-add-u16 : tie.Need-cast-wrapping-add-u16 Inv-loop μ-loop
-cast-wrapping-add-u16 c = omega (arith, c .shared-slice-known2 .given (c .before .before .loop .i))
+cast-place : tie.Need-cast-place Inv-loop μ-loop
+cast-place c = omega (arith, c .shared-slice-known .given (c .before .before .loop .i))
 
-wrapping-add-u16-requires : tie.Need-wrapping-add-u16-requires Inv-loop μ-loop
-wrapping-add-u16-requires c κs = search needs
+byte-fits : (c : tie.After-shared-slice-known Inv-loop μ-loop) → getD (c .before .before .before .args .bytes .now) (c .before .before .loop .i) 0 < 256
+byte-fits c = c .shared-slice-known .given (c .before .before .loop .i) .fits
+
+cast-register : tie.Need-cast-register Inv-loop μ-loop
+cast-register c = omega (arith, place _ _ (c .before .before .loop .inv .2) (byte-fits c))
+
+mul-register : tie.Need-mul-register Inv-loop μ-loop
+mul-register c = omega (arith, place _ _ (c .before .before .loop .inv .2) (byte-fits c))
+
+array-read-register : tie.Need-array-read-register Inv-loop μ-loop
+array-read-register c = place _ _ (c .before .before .loop .inv .2) (byte-fits c)
 
 add-i : tie.Need-add-i Inv-loop μ-loop
 add-i c = search needs
@@ -34,13 +46,18 @@ loop-less : tie.Need-loop-less Inv-loop μ-loop
 loop-less c = search needs
 
 loop-again : tie.Need-loop-again Inv-loop μ-loop
-loop-again c = (omega arith, omega (arith, c .wrapping-add-u16 .ensures), rw (c .wrapping-add-u16 .ensures) (sum-turn _ _ _ (c .before .before .loop-test .taken)) ∙ c .before .before .before .loop .inv .2)
+loop-again c =
+    let l = c .before .before .loop in
+    let step = by-table _ _ (l .inv .2) (byte-fits c) _ (l .inv .3) in (
+      omega arith,
+      rw step (bytes-turn _ (l .i) (l .register) (c .before .loop-test .taken)) ∙ l .inv .1,
+      rw step (byte-below _ _),
+      l .inv .3,
+    )
 
 returns : tie.Need-returns Inv-loop μ-loop
-unfolding checksum sum
-returns c =
-    let whole = rw (drop-of-length-le _ (c .loop-test .left)) at (c .before .loop .inv .2) in
-    omega (arith, whole, c .before .loop .inv .1)
+unfolding byteSteps
+returns c = rw (drop-of-length-le _ (c .loop-test .left)) at (c .before .loop .inv .1)
 
 pub checksum-spec : {M : Type 1} → statement M
 checksum-spec =
@@ -49,9 +66,11 @@ checksum-spec =
     Inv-loop
     μ-loop
     loop-holds
-    shared-slice-read-wrapping-add-u16
-    cast-wrapping-add-u16
-    wrapping-add-u16-requires
+    shared-slice-read-place
+    cast-place
+    cast-register
+    mul-register
+    array-read-register
     add-i
     loop-less
     loop-again

@@ -1,7 +1,7 @@
 -- Carried by the size, then the checksum.
 use borrow.Author.Needs.{needs}
 use mathlib.Core.Path.{_∙_}
-use Rattle.sender_rules.proofs.Infos.{other-size, other-sum, same-frame}
+use Rattle.sender_rules.proofs.Infos.{other-size, other-checksum, same-frame}
 use Rattle.sender_answers.proofs.info.compared.Statement.{statement}
 use Rattle.sender_answers.proofs.info.compared.Tie as tie
 
@@ -36,17 +36,17 @@ checksum-requires c κs = search needs
 
 returns-2 : tie.Need-returns-2
 returns-2 c =
-    let sum = c .before .before in
-    let sized = sum .before .before .before in
+    let check = c .before .before in
+    let sized = check .before .before .before in
     let size = sized .before in
-    other-sum _ (size .before .before .before .before .before .pre) _ _ (size .u16-from-bytes .ensures) (sized .if1 .left) _ (sum .u16-from-bytes2 .ensures) (rw (← c .before .checksum .ensures) (c .if2 .taken))
+    other-checksum _ (size .before .before .before .before .before .pre) _ _ (size .u16-from-bytes .ensures) (sized .if1 .left) _ (check .u16-from-bytes2 .ensures) (rw (← c .before .checksum .ensures) (c .if2 .taken))
 
 returns-3 : tie.Need-returns-3
 returns-3 c =
-    let sum = c .before .before in
-    let sized = sum .before .before .before in
+    let check = c .before .before in
+    let sized = check .before .before .before in
     let size = sized .before in
-    same-frame _ (size .before .before .before .before .before .pre) _ _ (size .u16-from-bytes .ensures) (sized .if1 .left) _ (sum .u16-from-bytes2 .ensures) (c .if2 .left ∙ c .before .checksum .ensures)
+    same-frame _ (size .before .before .before .before .before .pre) _ _ (size .u16-from-bytes .ensures) (sized .if1 .left) _ (check .u16-from-bytes2 .ensures) (c .if2 .left ∙ c .before .checksum .ensures)
 
 pub compared-spec : {M : Type 1} → statement M
 compared-spec =
