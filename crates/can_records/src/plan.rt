@@ -8,7 +8,7 @@ use can_rules::{FRAME_SIZE, LONGEST_SERIES};
 use message_rules::{Message, Refusal, WriteAnswer};
 
 // The 13-byte form at the start of the bytes, how many records of it to fill (none on a refusal), and what to answer.
-#[derive(Drop)]
+#[derive(Clone, Copy)]
 pub(crate) struct Plan {
     pub bytes: [u8; LONGEST_SERIES],
     pub count: usize,

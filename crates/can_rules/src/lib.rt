@@ -1,5 +1,6 @@
 // The rules of messages on CAN, single frames and series: in the 13-byte form (`specs/Can.antt`), with both round trips, and as frame records
 // (`specs/Records.antt`). The code is `can_scan`, `can_reader`, `can_writer` and `can_records`; the constants are the rules' numbers, for the code.
+#![tactic(auto)]
 
 // Bytes of a frame: the identifier (4), the DLC and the data.
 pub const FRAME_SIZE: usize = 13;
@@ -21,7 +22,7 @@ pub const FIRST_SERIES: u8 = 7;
 
 // A CAN frame as a driver takes it: document 01's frame record.
 #[repr(C)]
-#[derive(Drop)]
+#[derive(Clone, Copy)]
 pub struct CanFrame {
     pub identifier: u32,
     pub dlc: u8,

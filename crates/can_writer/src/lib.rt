@@ -1,4 +1,5 @@
 // Writing a message as CAN frames, by the rules of `can_rules`.
+#![tactic(auto)]
 mod writer;
 
 pub use writer::write;

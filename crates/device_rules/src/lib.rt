@@ -3,12 +3,13 @@
 //
 // The rules are definitions of `specs/`: `Device` (the state, and a unit at first), `Faults` (why a command is not carried out), `Commands` (what
 // it does when it is), `Work` (the work step), `Receive` and `Answers` (bytes that arrive). Demand 3 is proved of these; the code stands above.
+#![tactic(auto)]
 use file_rules::Job;
 use link_rules::Link;
 use message_rules::{Refusal, Verdict};
 
 // Document 01's "idle, open or finished".
-#[derive(Drop)]
+#[derive(Clone, Copy)]
 pub enum Phase {
     Idle,
     Open,
@@ -16,7 +17,7 @@ pub enum Phase {
 }
 
 // What a transfer moves. Setup makes a new one and cancel leaves none; nothing else of the unit is a transfer's.
-#[derive(Drop)]
+#[derive(Clone, Copy)]
 pub struct Transfer {
     pub phase: Phase,
     // The number of the frame that was stored last; 0xFFFF before the first.
@@ -35,7 +36,7 @@ pub struct Transfer {
 }
 
 // Document 01's unit. It is called a device, since `Unit` is a type of the logic.
-#[derive(Drop)]
+#[derive(Clone, Copy)]
 pub struct Device {
     pub link: Link,
     // The unit's own address.
@@ -46,7 +47,7 @@ pub struct Device {
 }
 
 // How a message is addressed: to this unit, to every unit at once (document 02's broadcast), or to another one.
-#[derive(Drop)]
+#[derive(Clone, Copy)]
 pub enum Addressing {
     Own,
     Broadcast,
@@ -54,7 +55,7 @@ pub enum Addressing {
 }
 
 // The answer of making a unit and of the work step. A refused work step leaves unit and store as they came.
-#[derive(Drop)]
+#[derive(Clone, Copy)]
 pub struct UnitAnswer {
     pub device: Device,
     pub verdict: Verdict,
@@ -62,7 +63,7 @@ pub struct UnitAnswer {
 
 // What keeps a command from being carried out: nothing; that it is a setup which repeats the open job's, and is acked; or a reason, with the error
 // byte and the index of its nack.
-#[derive(Drop)]
+#[derive(Clone, Copy)]
 pub enum Fault {
     None,
     Repeat,
@@ -71,7 +72,7 @@ pub enum Fault {
 
 // What receiving bytes comes to: an answer of this length lies at the start of the lent output, or there is none. A unit that is silent may
 // have changed.
-#[derive(Drop)]
+#[derive(Clone, Copy)]
 pub enum Outcome {
     Answer(usize),
     Silent,
@@ -79,7 +80,7 @@ pub enum Outcome {
 }
 
 // The answer of receiving bytes. A refusal leaves unit and output as they came.
-#[derive(Drop)]
+#[derive(Clone, Copy)]
 pub struct Received {
     pub device: Device,
     pub outcome: Outcome,

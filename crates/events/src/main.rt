@@ -1,4 +1,5 @@
 // events: reports on the event logs that its arguments name. `-` is standard input, and so is no argument at all.
+#![tactic(auto)]
 mod log;
 mod print;
 

@@ -1,19 +1,20 @@
 // What unit and sender share: the file of an upload in frames (`specs/File.antt`), the frame checksum (`specs/Checksum.antt`) and the errors that it
 // is sure to detect (`specs/Detection.antt`), and the setup that announces a file and the job that it belongs to (`specs/Setup.antt`), with their
 // laws. The code is `file_frames`, `file_checksum` and `file_setup`.
+#![tactic(auto)]
 
 // How many bytes a setup's payload has: the size and the job number.
 pub const SETUP_LENGTH: usize = 8;
 
 // Document 02's job, by its number, or none. None is a case of its own: 0 is a number as any other.
-#[derive(Drop)]
+#[derive(Clone, Copy)]
 pub enum Job {
     None,
     Number(u32),
 }
 
 // What a setup's payload says: the file's size and the job's number, unless it has another length than a setup's.
-#[derive(Drop)]
+#[derive(Clone, Copy)]
 pub enum SetupAnswer {
     Setup(u32, u32),
     WrongLength,

@@ -1,4 +1,5 @@
 // frames: lists the frames of the UART streams that its arguments name. `-` is standard input, and so is no argument at all.
+#![tactic(auto)]
 mod stream;
 
 use libc::{STDIN_FILENO, STDOUT_FILENO};

@@ -2,24 +2,25 @@
 //
 // The rules are definitions of `specs/`: `Listing` (which frames there are, and what is said of each) and `Lines` (a line and its
 // text).
+#![tactic(auto)]
 use message_rules::Kind;
 
 // What stands for the kind: the kind's name, or `refused`.
-#[derive(Drop)]
+#[derive(Clone, Copy)]
 pub enum Name {
     Kind(Kind),
     Refused,
 }
 
 // Another field: a number, or `-`.
-#[derive(Drop)]
+#[derive(Clone, Copy)]
 pub enum Field {
     Number(usize),
     Dash,
 }
 
 // A line: the offset of a frame's ESC, and what is said of the frame.
-#[derive(Drop)]
+#[derive(Clone, Copy)]
 pub struct Line {
     pub at: usize,
     pub name: Name,

@@ -12,7 +12,7 @@ use message_rules::{Kind, Message, ReadAnswer, Refusal};
 use serial_rules::SerialLink;
 
 // A word of at most seven letters, and how many it has.
-#[derive(Drop)]
+#[derive(Clone, Copy)]
 struct Word {
     letters: [u8; 7],
     count: usize,

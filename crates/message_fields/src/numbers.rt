@@ -24,7 +24,6 @@ pub fn refusal_number(refusal: Refusal) -> u8
         Refusal::PartialRecord => 12,
         Refusal::IllegalMilliseconds => 13,
         Refusal::LogTooLong => 14,
-        Refusal::PartialEntry => 16,
     }
 }
 

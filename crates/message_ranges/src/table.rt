@@ -4,7 +4,7 @@ ghost use Rattle.message_rules.specs.Kinds.{id_range, payload_range, error_range
 
 use message_rules::{Kind, Range};
 
-#[derive(Drop)]
+#[derive(Clone, Copy)]
 pub(crate) struct KindRanges {
     pub id: Range,
     // Of the payload's length.

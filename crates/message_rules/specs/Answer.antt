@@ -3,7 +3,7 @@
 use Rattle.std.specs.Prelude.{ℕ, Bool, true, false, List, ◌++◌, leb, length, drop}
 use Rattle.message_rules.specs.declared.Message.{Message}
 use Rattle.message_rules.specs.declared.Refusal.{Refusal}
-use Rattle.message_rules.specs.declared.Refusal.TheVariants.{Truncated, UnknownStart, BrokenEscape, TrailingBytes, IdOutOfRange, WrongLength, IllegalValue, OutputTooShort, NotWritable, SeriesMismatch, IllegalFileSize, PartialRecord, IllegalMilliseconds, LogTooLong, PartialEntry}
+use Rattle.message_rules.specs.declared.Refusal.TheVariants.{Truncated, UnknownStart, BrokenEscape, TrailingBytes, IdOutOfRange, WrongLength, IllegalValue, OutputTooShort, NotWritable, SeriesMismatch, IllegalFileSize, PartialRecord, IllegalMilliseconds, LogTooLong}
 use Rattle.message_rules.specs.declared.Verdict.{Verdict}
 use Rattle.message_rules.specs.declared.Verdict.TheVariants as VerdictOf
 use Rattle.message_rules.specs.declared.ReadAnswer.{ReadAnswer}
@@ -27,7 +27,6 @@ refusal_number IllegalFileSize = 11
 refusal_number PartialRecord = 12
 refusal_number IllegalMilliseconds = 13
 refusal_number LogTooLong = 14
-refusal_number PartialEntry = 16
 
 -- What the checks of an input come to: the first that fails gives its number.
 pub data Check : Type 0 where

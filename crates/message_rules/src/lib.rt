@@ -4,9 +4,10 @@
 // the refusals 9, 5, 6, 7), `Data` (the data on UART, RS485 and CSP) and `Answer` (what a refusal or an answer is). Their code is in
 // crates of their own: the tables by the kind `message_kinds`, the fields `message_fields`, the ranges `message_ranges`, the checks
 // `message_checks`; bytes reach a lent output by `message_output`.
+#![tactic(auto)]
 
 // The seven kinds, with document 01's name for each.
-#[derive(Drop)]
+#[derive(Clone, Copy)]
 pub enum Kind {
     // tc
     Telecommand,
@@ -25,7 +26,7 @@ pub enum Kind {
 }
 
 // The error byte of an ack or a nack. A nack read from CAN has none: it is "not told", which is no number.
-#[derive(Drop)]
+#[derive(Clone, Copy)]
 pub enum ErrorByte {
     Told(u8),
     NotTold,
@@ -33,7 +34,7 @@ pub enum ErrorByte {
 
 // A message without its payload. A field that the kind or the link does not carry is 0 when read and not looked at
 // when written.
-#[derive(Drop)]
+#[derive(Clone, Copy)]
 pub struct Message {
     pub kind: Kind,
     pub id: u8,
@@ -45,7 +46,7 @@ pub struct Message {
 }
 
 // Why an input was refused, in the order of the refusal numbers of documents 01 and 02.
-#[derive(Drop)]
+#[derive(Clone, Copy)]
 pub enum Refusal {
     // 1: the input ends before the message does.
     Truncated,
@@ -55,9 +56,9 @@ pub enum Refusal {
     BrokenEscape,
     // 4: bytes after the message.
     TrailingBytes,
-    // 5: the ID is not of the kind's range; an entry or a log ID that a telemetry log does not have.
+    // 5: the ID is not of the kind's range.
     IdOutOfRange,
-    // 6: wrong length for the kind, DLC or series length out of range; a size list not of forty.
+    // 6: wrong length for the kind, DLC or series length out of range.
     WrongLength,
     // 7: ack error not 0, nack error not 1..10, RS485 source 0, a CAN byte past the DLC not 0.
     IllegalValue,
@@ -75,12 +76,10 @@ pub enum Refusal {
     IllegalMilliseconds,
     // 14: an event log of more than 65,520 bytes.
     LogTooLong,
-    // 16: a telemetry log of under five bytes, or one that does not end at an entry's end.
-    PartialEntry,
 }
 
 // What a row of checks comes to: the first that fails refuses.
-#[derive(Drop)]
+#[derive(Clone, Copy)]
 pub enum Verdict {
     Passed,
     Refused(Refusal),
@@ -88,7 +87,7 @@ pub enum Verdict {
 
 // The answer of every reader: the message and the length of its payload, which lies at the start of the lent output,
 // or the refusal, which leaves the output as it came.
-#[derive(Drop)]
+#[derive(Clone, Copy)]
 pub enum ReadAnswer {
     Message(Message, usize),
     Refused(Refusal),
@@ -96,18 +95,18 @@ pub enum ReadAnswer {
 
 // The answer of every writer: how many bytes it put at the start of the lent output, or the refusal, which leaves the
 // output as it came.
-#[derive(Drop)]
+#[derive(Clone, Copy)]
 pub enum WriteAnswer {
     Length(usize),
     Refused(Refusal),
 }
 
 // From the first to the second, both included.
-#[derive(Drop)]
+#[derive(Clone, Copy)]
 pub struct Range(pub usize, pub usize);
 
 // What a link carries. Writing refuses with 9 an event where the link carries none, and a nack that is "not told" where it carries error bytes.
-#[derive(Drop)]
+#[derive(Clone, Copy)]
 pub struct Carries {
     pub events: bool,
     // Error bytes: a nack on a link without them is always "not told".
@@ -115,7 +114,7 @@ pub struct Carries {
 }
 
 // The kind that a type number or an ID stands for.
-#[derive(Drop)]
+#[derive(Clone, Copy)]
 pub enum KindLookup {
     Known(Kind),
     Unknown,

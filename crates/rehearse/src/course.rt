@@ -4,7 +4,7 @@ ghost use Rattle.rehearse.specs.Course.{round_of, mixed, fate_of};
 
 use round_rules::{Fate, Round};
 
-#[derive(Drop)]
+#[derive(Clone, Copy)]
 pub enum Course {
     // Every round good.
     Good,

@@ -1,7 +1,7 @@
 // Files by their names.
 
 // What came of reading a file: how many bytes lie at the start of the room, which is full where the file has more.
-#[derive(Drop)]
+#[derive(Clone, Copy)]
 pub enum Input {
     Length(usize),
     Unread,

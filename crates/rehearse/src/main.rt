@@ -1,6 +1,7 @@
 // rehearse: uploads files on each link as a job, round by round until the sender ends, and compares the store with the file; then the same job is
 // started again. Each goes twice: with every round good, and with rounds of every kind in turn. An argument names a file; one that is a number
 // stands for so many made-up bytes.
+#![tactic(auto)]
 mod course;
 mod exchange;
 mod input;

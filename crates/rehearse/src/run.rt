@@ -14,7 +14,7 @@ use sender_rules::Sender;
 const MOST: u32 = 13107050;
 
 // What rounds leave: unit and sender, whether all of them passed, and how many were made. The first that is refused is the last.
-#[derive(Drop)]
+#[derive(Clone, Copy)]
 pub struct Ran {
     pub device: Device,
     pub sender: Sender,

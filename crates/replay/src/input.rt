@@ -2,7 +2,7 @@
 use crate::line::LONGEST_LINE;
 
 // A line at the start of the buffer.
-#[derive(Drop)]
+#[derive(Clone, Copy)]
 pub struct Line {
     // Its length without its LF, and that of all that lies in the buffer.
     pub length: usize,

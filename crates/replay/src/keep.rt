@@ -6,7 +6,7 @@ use link_rules::Link;
 use round_rules::State;
 use sender_rules::{Sender, Stage};
 
-#[derive(Drop)]
+#[derive(Clone, Copy)]
 pub struct Kept {
     // A unit has been made.
     pub made: bool,

@@ -1,5 +1,6 @@
 // replay: puts the library's calls on text lines. A script has one call to a line, and each line is answered by one. It runs the scripts that its
 // arguments name, each from an empty start. `-` is standard input, and so is no argument at all. docs/REPLAY.md describes scripts and prints.
+#![tactic(auto)]
 mod call;
 mod events;
 mod input;

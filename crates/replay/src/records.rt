@@ -8,7 +8,7 @@ use can_rules::CanFrame;
 use message_rules::{Message, WriteAnswer};
 
 // The records, and what was answered.
-#[derive(Drop)]
+#[derive(Clone, Copy)]
 pub struct Written {
     pub frames: [CanFrame; 64],
     pub answer: WriteAnswer,

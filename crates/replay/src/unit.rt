@@ -7,14 +7,14 @@ use device::{Outcome, UnitAnswer};
 use message_rules::Verdict;
 
 // What is kept after bytes have arrived at the unit, and what came of them.
-#[derive(Drop)]
+#[derive(Clone, Copy)]
 pub struct Arrival {
     pub kept: Kept,
     pub outcome: Outcome,
 }
 
 // The same of a work step.
-#[derive(Drop)]
+#[derive(Clone, Copy)]
 pub struct Step {
     pub kept: Kept,
     pub verdict: Verdict,

@@ -2,7 +2,7 @@
 use crate::input::output;
 use text_rules::{HexAnswer, NumberAnswer};
 
-#[derive(Drop)]
+#[derive(Clone, Copy)]
 pub enum Value {
     Is(usize),
     Bad,

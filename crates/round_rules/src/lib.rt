@@ -4,9 +4,10 @@
 // `Legal` (the lists of calls that demand 3 speaks of), `Good` (good rounds, and the bounds that rounds give), `Schedule` (every sequence of
 // rounds as such a list) and `Rounds` (rounds as they are run). `proofs/` has the induction over lists, the counting of rounds, and the tie
 // between rounds that are run and their calls, for every requester that shows call by call what `proofs/Steady.antt` asks.
+#![tactic(auto)]
 
 // Document 01's "finished or given up"; until then it runs.
-#[derive(Drop)]
+#[derive(Clone, Copy)]
 pub enum State {
     Running,
     Finished,
@@ -15,7 +16,7 @@ pub enum State {
 
 // What becomes of a round's exchange: the answer is delivered, or the request is lost, or its answer, or the request arrives twice and the
 // second answer is delivered.
-#[derive(Drop)]
+#[derive(Clone, Copy)]
 pub enum Fate {
     Delivered,
     RequestLost,
@@ -24,7 +25,7 @@ pub enum Fate {
 }
 
 // A round: the unit's work step, done or not, then one exchange.
-#[derive(Drop)]
+#[derive(Clone, Copy)]
 pub struct Round {
     pub worked: bool,
     pub fate: Fate,

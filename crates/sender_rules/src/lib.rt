@@ -4,6 +4,7 @@
 // The rules are definitions of `specs/`: `Sender` (the state, starting, the request of each stage), `Hearing` (what an answer means, and what
 // a round does to the state) and `Sending` (the sender as the side that asks). `proofs/Stages.antt` has document 01's sentences on the stages as
 // laws of them, and `proofs/Steps.antt` what rounds count.
+#![tactic(auto)]
 use file_rules::Job;
 use link_rules::Link;
 use message_rules::Refusal;
@@ -11,7 +12,7 @@ use round_rules::State;
 
 // The four stages of a frame, with document 01's letter for each, and document 02's "one stage before frame 0's A", which a sender with a job begins
 // at. `Back` is A after a frame info at B that differed: the next arrival at B is then no step forward.
-#[derive(Drop)]
+#[derive(Clone, Copy)]
 pub enum Stage {
     // The stage before frame 0's A: sends setup.
     Setup,
@@ -27,7 +28,7 @@ pub enum Stage {
     Confirm,
 }
 
-#[derive(Drop)]
+#[derive(Clone, Copy)]
 pub struct Sender {
     pub link: Link,
     // The addresses that its requests carry.
@@ -47,7 +48,7 @@ pub struct Sender {
 }
 
 // What an answer means to the sender at its stage.
-#[derive(Drop)]
+#[derive(Clone, Copy)]
 pub enum Meaning {
     // Any other answer, or none.
     Stay,
@@ -61,7 +62,7 @@ pub enum Meaning {
 
 // The answer of asking for a request: its length at the start of the lent output, or nothing once the sender has ended. A refusal leaves
 // the output as it came.
-#[derive(Drop)]
+#[derive(Clone, Copy)]
 pub enum RequestAnswer {
     Request(usize),
     Nothing,
@@ -69,7 +70,7 @@ pub enum RequestAnswer {
 }
 
 // The answer of `start` and of `hear`: the sender afterwards. A refusal leaves it as it came.
-#[derive(Drop)]
+#[derive(Clone, Copy)]
 pub enum SenderAnswer {
     Sender(Sender),
     Refused(Refusal),

@@ -1,4 +1,5 @@
 // The stages of the sender (document 01, "The sender and its rounds"): what a round does to it.
+#![tactic(auto)]
 mod table;
 
 ghost use Rattle.std.specs.Prelude.{◌≡◌};

@@ -1,5 +1,6 @@
 // What document 01 settles for each serial link and both directions: ESC and the tail, the start bytes, what stands in front of the data,
 // and the source. The rules are `serial_rules`'s.
+#![tactic(auto)]
 ghost use Rattle.std.specs.Prelude.{◌≡◌};
 ghost use Rattle.serial_rules.specs.Stuffing.{esc, tail_byte};
 ghost use Rattle.serial_rules.specs.Frames.{start_row, id_length, address_length, source_legal};
@@ -7,7 +8,7 @@ ghost use Rattle.serial_rules.specs.Frames.{start_row, id_length, address_length
 use serial_rules::{RowLookup, SerialLink, StartRow};
 
 // UART's ESC, tail and start bytes.
-#[derive(Drop)]
+#[derive(Clone, Copy)]
 pub struct Uart;
 
 impl Uart {
@@ -25,7 +26,7 @@ impl Uart {
 }
 
 // RS485's; it has no event.
-#[derive(Drop)]
+#[derive(Clone, Copy)]
 pub struct Rs485;
 
 impl Rs485 {

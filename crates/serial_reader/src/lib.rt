@@ -1,4 +1,5 @@
 // Reading a frame of UART or RS485, by the rules of `serial_rules`.
+#![tactic(auto)]
 mod kind;
 mod reader;
 mod undouble;

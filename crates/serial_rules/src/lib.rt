@@ -3,15 +3,16 @@
 //
 // The rules are definitions of `specs/`: `Stuffing` (doubling, and the scan that undoes it) and `Frames` (start bytes, fields in
 // front of the data, reading and writing).
+#![tactic(auto)]
 
-#[derive(Drop)]
+#[derive(Clone, Copy)]
 pub enum SerialLink {
     Uart,
     Rs485,
 }
 
 // A row of document 01's table of start bytes.
-#[derive(Drop)]
+#[derive(Clone, Copy)]
 pub enum StartRow {
     // tc, tlmreq
     Request,
@@ -24,14 +25,14 @@ pub enum StartRow {
 }
 
 // The row that a start byte stands for.
-#[derive(Drop)]
+#[derive(Clone, Copy)]
 pub enum RowLookup {
     Known(StartRow),
     Unknown,
 }
 
 // How a scan from inside a frame stopped.
-#[derive(Drop)]
+#[derive(Clone, Copy)]
 pub enum Stop {
     // After the tail.
     Ended,

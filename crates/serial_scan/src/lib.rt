@@ -1,5 +1,6 @@
 // The scan of a serial frame, from a place inside it to where it ends or is broken off: reader and listing both use it. ESC and the
 // tail are those of the link that is read. The rules are `serial_rules`'s: `Stuffing`.
+#![tactic(auto)]
 ghost use Rattle.std.specs.Prelude.{◌≡◌};
 ghost use Rattle.serial_scan.specs.Scan.{found, scan_from};
 
@@ -7,7 +8,7 @@ use serial_fields::{escape, tail};
 use serial_rules::{SerialLink, Stop};
 
 // What a scan found: how it stopped, the place where it stopped, and how many bytes the body has.
-#[derive(Drop)]
+#[derive(Clone, Copy)]
 pub struct Scanned {
     pub stop: Stop,
     pub end: usize,

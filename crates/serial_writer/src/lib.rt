@@ -1,4 +1,5 @@
 // Writing a message as a frame of UART or RS485, by the rules of `serial_rules`.
+#![tactic(auto)]
 mod double;
 mod front;
 mod start;

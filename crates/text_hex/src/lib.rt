@@ -1,4 +1,5 @@
 // Byte strings in hexadecimal digits, read and printed by the rules of `text_rules` (`Hex`).
+#![tactic(auto)]
 mod reader;
 mod writer;
 

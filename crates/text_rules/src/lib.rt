@@ -3,9 +3,10 @@
 //
 // The rules are definitions of `specs/`: `Words` (how a line splits), `Digits` (single digits), `Numbers` (numbers as they are read and
 // printed) and `Hex` (byte strings as they are read and printed, and what a lent output holds afterwards).
+#![tactic(auto)]
 
 // What a word is as a number.
-#[derive(Drop)]
+#[derive(Clone, Copy)]
 pub enum NumberAnswer {
     Value(u32),
     // No number, or one beyond the limit.
@@ -13,7 +14,7 @@ pub enum NumberAnswer {
 }
 
 // What reading or printing a byte string comes to.
-#[derive(Drop)]
+#[derive(Clone, Copy)]
 pub enum HexAnswer {
     // So many bytes lie at the start of the lent output.
     Length(usize),

@@ -2,6 +2,7 @@
 // calls of the crates `device` and `sender`. A program that has both sides, as a test or a rehearsal on the ground, runs an upload with it.
 //
 // What a round comes to is `round_made` and `round_refusal` of `specs/Rounds.antt` in `round_rules`, over the calls that demand 3 is proved of.
+#![tactic(auto)]
 mod exchange;
 
 ghost use Rattle.std.specs.Prelude.{◌≡◌};
@@ -16,7 +17,7 @@ use sender_rules::Sender;
 
 // What a round leaves: unit and sender, and whether each of its calls passed. The first that is refused ends the round, and what the calls
 // before it did stays.
-#[derive(Drop)]
+#[derive(Clone, Copy)]
 pub struct Rounded {
     pub device: Device,
     pub sender: Sender,
