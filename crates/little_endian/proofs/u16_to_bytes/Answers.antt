@@ -1,0 +1,9 @@
+-- Carried by computation: the code divides as the definition does.
+use borrow.Author.Rules.{rules}
+use mathlib.Core.Path.{refl}
+use Rattle.little_endian_rules.specs.LittleEndian.{to_bytes}
+use Rattle.little_endian.proofs.u16_to_bytes.Goals as goal
+
+pub returns : goal.returns
+unfolding to_bytes
+returns c = refl
