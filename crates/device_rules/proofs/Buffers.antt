@@ -16,7 +16,7 @@ take_of_take (suc n) [] = refl
 take_of_take (suc n) (x ∷ l) = rw (take_of_take n l)
 
 pub buffer-length : (t : Transfer) {vs : List Val} → Is the_row t vs → length t.buffer ≡ 256
-buffer-length t g = sym (length-map t.buffer (λ (n : ℕ). n)) ∙ g.1.1.1.1.0.1.0.1
+buffer-length t g = g.1.1.1.1.0.1.0.1
 
 -- The frame is of the buffer:
 pub frame-within : (t : Transfer) → length (buffered_frame t) ≤ length t.buffer
