@@ -27,7 +27,7 @@ module _ {S : Type 0} (a : Requester S) where
   pub made_more : (w : World S) (rs : List Round) (r : Round) → rounds_made a w (rs ++ (r ∷ [])) ≡ round_made a (rest (rounds_made a w rs)) r
   unfolding rounds_made
   made_more w [] r = refl
-  made_more w (q ∷ rs) r = made_more _ rs r
+  made_more w (q ∷ rs) r = made_more (round_made a (rest w) q) rs r
 
   pub refusal-more : (w : World S) (rs : List Round) (r : Round) → rounds_refusal a w rs ≡ passed
       → rounds_refusal a w (rs ++ (r ∷ [])) ≡ round_refusal a (rest (rounds_made a w rs)) r

@@ -125,6 +125,7 @@ module _ (l : Link) (source destination n : ℕ) (job : Job) (f since rounds : �
   -- and with the answer that the stage waits for: first the setup's ack, of a sender with a job.
   first : (j : Job) → job ≡ j → JobAt Setup j → Counts (at_stage Setup) (round_over (at_stage Setup) Forward)
   unfolding round_over advanced steps
+  first JobOf.None e j = elim j [ ]
   first (JobOf.Number n) e j = rw (on, e) (step refl refl (omega arith))
 
   forward : (stage : Stage) → JobAt stage job → Counts (at_stage stage) (round_over (at_stage stage) Forward)

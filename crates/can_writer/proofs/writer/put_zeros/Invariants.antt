@@ -1,0 +1,16 @@
+-- Carried by the law of one byte more, of a list of zeros.
+use borrow.Author.Rules.{rules}
+use Prim.Native.Nat.{ℕ, ◌+◌, ◌-◌, ◌≤◌}
+use mathlib.Core.Path.{◌≡◌, refl, ◌∙◌, sym}
+use native.Mathlib.Nat.{add-zero}
+use native.Mathlib.Omega.{arith}
+use lib.ListN.{length, drop, replicate, length-set, length-replicate, get_or-replicate}
+use lib.Seq.{sets}
+use Rattle.message_rules.proofs.Stores.{store_turn, store-end}
+use Rattle.can_writer.proofs.writer.put_zeros.Given as goal
+
+abbrev pub invariant-loop-i : goal.invariant-loop-i
+invariant-loop-i l = (l.i ≤ l.n) × (length l.out ≡ length l.initial.out) × (sets l.out (l.at + l.i) (drop l.i (replicate l.n 0)) ≡ sets l.initial.out l.at (replicate l.n 0))
+
+abbrev pub decreases-loop-i : goal.decreases-loop-i
+decreases-loop-i l = l.n - l.i

@@ -1,0 +1,24 @@
+-- Carried by what the checks answer, in each of its cases.
+use borrow.Author.Rules.{rules}
+use mathlib.Core.Path.{◌≡◌, refl}
+use lib.ListN.{length}
+use Rattle.message_rules.specs.Answer.{passed, verdict_result, write_result, after, within, counted, output_after}
+use Rattle.message_rules.specs.Checks.{write_checks}
+use Rattle.can_rules.specs.Can.{can_carries, can_write}
+use Rattle.message_rules.proofs.Checks.{payload-most}
+use Rattle.can_writer.proofs.writer.write.Goals as goal
+
+pub write_checked-requires : goal.write_checked-requires
+unfolding verdict_result
+write_checked-requires c =
+    let a = c.args in
+    let passes : write_checks can_carries a.message (length a.payload.now) ≡ passed = rw (← c.check_written.ensures, c.in-Passed.is) in
+    payload-most can_carries a.message _ passes
+
+pub returns-in-Refused : goal.returns-in-Refused
+unfolding can_write verdict_result after within counted output_after write_result
+returns-in-Refused c = rw (← c.check_written.ensures, c.in-Refused.is) record { result_value = refl; out_after = refl }
+
+pub returns-in-Passed : goal.returns-in-Passed
+unfolding can_write verdict_result after
+returns-in-Passed c = rw (← c.check_written.ensures, c.in-Passed.is) c.write_checked.ensures
