@@ -31,7 +31,7 @@ use Rattle.upload_rules.specs.SetUp.{set_up_call}
 use Rattle.sender_rules.specs.Hearing.{job_steps}
 use Rattle.sender_rules.specs.Sender.{frames_known}
 use Rattle.sender_rules.specs.Sending.{sending}
-use Rattle.upload_rules.specs.Stored.{Mark, waiting, taken, stored, is_stored, count_stored, mark_call, frames_stored}
+use Rattle.upload_rules.specs.Stored.{Mark, waiting, taken, is_stored, count_stored, mark_call, frames_stored}
 use Rattle.sender_rules.specs.declared.Sender.{Sender}
 use Rattle.sender_rules.specs.declared.Stage.{Stage}
 use Rattle.sender_rules.specs.declared.Stage.TheVariants.{Setup, Frame, Back, Compare, Take, Confirm}
