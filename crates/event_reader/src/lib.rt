@@ -1,5 +1,6 @@
 // Reading an event record. The rules are `event_rules`'s: `Records`.
 #![tactic(auto)]
+
 ghost use Rattle.std.specs.Prelude.{◌≡◌};
 ghost use Rattle.message_rules.specs.Answer.{value_result, value_after};
 ghost use Rattle.event_rules.specs.Records.{no_record, event_read};
