@@ -1,5 +1,6 @@
 // Reading a message from its CAN frames, by the rules of `can_rules`.
 #![tactic(auto)]
+
 mod check;
 mod reader;
 

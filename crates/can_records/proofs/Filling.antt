@@ -2,13 +2,11 @@
 use Prim.Native.Nat.{ℕ, ◌+◌, ◌/◌, ◌≤◌}
 use mathlib.Core.Bool.{Bool, true, false}
 use mathlib.Core.List.{List, [], ◌++◌}
-use mathlib.Core.Path.{◌≡◌, refl, sym, ◌∙◌, ap}
+use mathlib.Core.Path.{◌≡◌, refl, ap}
 use native.Mathlib.Omega.{arith}
 use borrow.Author.Tests.{leb-true}
 use lib.Dec.{leb}
-use lib.ListN.{length, drop, replicate, length-map}
-use mir.Val.{Val}
-use denote.Laws.{Is}
+use lib.ListN.{length, drop, replicate}
 use Rattle.message_rules.specs.Answer.{Answer, refused, given, counted, output_after, write_result}
 use Rattle.message_rules.specs.declared.Message.{Message}
 use Rattle.can_rules.specs.Can.{most_later, longest_series, can_write}
@@ -17,11 +15,6 @@ use Rattle.can_rules.specs.Records.{records_of, in_records, records_write, fitti
 use Rattle.can_rules.proofs.Records.{records_local, records-length, filled_to}
 use Rattle.can_records.specs.Plan.{Planned, in_frames, to_fill}
 use Rattle.can_records.specs.declared.plan.Plan.{Plan}
-use Rattle.can_records.specs.contracts.plan.Plan.{the_row}
-
--- The array of a plan that is at hand has all its bytes.
-pub bytes-length : (p : Plan) {vs : List Val} → Is the_row p vs → length p.bytes ≡ longest_series
-bytes-length p g = sym (length-map p.bytes (λ (n : ℕ). n)) ∙ g.1.1.0.1.0.1
 
 -- What a call has decided, in records: what is answered, and what is filled, which is within the lent list and within the longest series.
 abbrev records_to_fill : Answer Unit (List CanFrame) → List CanFrame

@@ -1,6 +1,7 @@
 // Messages on CAN as a lent list of frame records, for a driver that takes structs. The record is `can_rules::CanFrame`, and the
 // rules are `can_rules`'s: `Records`.
 #![tactic(auto)]
+
 mod plan;
 
 ghost use Rattle.std.specs.Prelude.{◌≡◌, length};

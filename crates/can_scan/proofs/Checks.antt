@@ -1,23 +1,15 @@
 -- The checks of a frame by its bytes. Carried by the laws of `drop`: a byte of the data is a byte of the frame, five further on.
--- Before them, what the code's negated test tells of what it asked.
 use Prim.Native.Nat.{ℕ, ◌+◌, ◌-◌}
-use mathlib.Core.Bool.{Bool, true, false, not, ◌&&◌}
+use mathlib.Core.Bool.{true, ◌&&◌}
 use mathlib.Core.List.{List}
-use mathlib.Core.Path.{◌≡◌, sym, ◌∙◌}
+use mathlib.Core.Path.{◌≡◌}
 use native.Mathlib.Omega.{arith}
-use borrow.Author.Tests.{not-true, not-false}
 use lib.Dec.{eqb}
 use lib.ListN.{get_or, take, drop}
 use lib.Seq.{get_or-drop, drop-drop}
 use Rattle.message_rules.specs.Answer.{passed, require}
 use Rattle.can_rules.specs.Can.{type_legal, zeros, first_fits, first_checks, later_fits, later_checks, same_bytes}
 use Rattle.can_rules.proofs.Series.{later-dlc}
-
-pub held : (r x : Bool) → r ≡ x → not r ≡ false → x ≡ true
-held r x e h = sym e ∙ not-false r h
-
-pub not_held : (r x : Bool) → r ≡ x → not r ≡ true → x ≡ false
-not_held r x e h = sym e ∙ not-true r h
 
 pub first_checks-at : (f : List ℕ)
     → first_checks f

@@ -1,5 +1,6 @@
 // The scan of a message's CAN frames, single or in a series, by the rules of `can_rules`.
 #![tactic(auto)]
+
 mod check;
 mod scanner;
 

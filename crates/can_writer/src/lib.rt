@@ -1,5 +1,6 @@
 // Writing a message as CAN frames, by the rules of `can_rules`.
 #![tactic(auto)]
+
 mod writer;
 
 pub use writer::write;

@@ -2,6 +2,7 @@
 //
 // Everything is decided before the first byte is stored, so a refusal leaves the lent output as it came.
 #![tactic(auto)]
+
 ghost use Rattle.std.specs.Prelude.{◌≡◌, get_or};
 ghost use Rattle.message_rules.specs.Answer.{read_result, within, counted, output_after, given};
 ghost use Rattle.message_rules.specs.Data.{data_read};

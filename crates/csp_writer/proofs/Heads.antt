@@ -28,7 +28,7 @@ head_stored h p out room =
     let q = p ++ drop (length p) (drop (length h) out) in
     let size : length (take (length h) out) ≡ length h = length-take-le (length h) out (omega arith) in
     let fits : 0 + length h ≤ length (take (length h) out ++ q) = simp length-append (omega (arith, size)) in
-    rw (sets-eq h (take (length h) out ++ q) 0 fits, zero-add, drop_at (take (length h) out) q (length h) size, drop-drop, length-append, append_assoc)
+    rw (sets-eq h (take (length h) out ++ q) 0 fits, zero-add, drop_at (take (length h) out) q (length h) size, drop-drop, length-append, append_assoc, append_assoc)
 
 module _ (h p out part : List ℕ) (n : ℕ) (w : WriteAnswer)
     (size : n ≡ length h) (room : n ≤ length out)

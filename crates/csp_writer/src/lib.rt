@@ -2,6 +2,7 @@
 //
 // Everything is decided before the first byte is stored, so a refusal leaves the lent output as it came.
 #![tactic(auto)]
+
 ghost use Rattle.std.specs.Prelude.{◌+◌, ◌≤◌, ◌++◌, ◌≡◌, length};
 ghost use Rattle.std.proofs.lemmas.List.Edits.{sets};
 ghost use Rattle.message_rules.specs.Answer.{write_result, within, counted, output_after, written};

@@ -1,6 +1,7 @@
 // The commands of the unit (document 01, "The unit"): what each does to the transfer, a file for each but cancel, which leaves none; and a
 // command carried out by its ID.
 #![tactic(auto)]
+
 mod frame;
 mod setup;
 mod take;

@@ -1,5 +1,6 @@
 // Why a command is not carried out (document 01, "The unit", its table): a file for each command, and all of them by ID.
 #![tactic(auto)]
+
 mod cancel;
 mod frame;
 mod phase;

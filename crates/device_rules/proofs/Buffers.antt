@@ -1,9 +1,9 @@
 -- What a transfer's type says of its frame buffer: it has 256 bytes, and a frame no more.
 use Prim.Native.Nat.{ℕ, zero, suc, ◌≤◌}
 use mathlib.Core.List.{List, [], ◌∷◌}
-use mathlib.Core.Path.{◌≡◌, refl, sym, ◌∙◌}
+use mathlib.Core.Path.{◌≡◌, refl}
 use native.Mathlib.Omega.{arith}
-use lib.ListN.{length, take, length-map, length-take}
+use lib.ListN.{length, take, length-take}
 use mir.Val.{Val}
 use denote.Laws.{Is}
 use Rattle.device_rules.specs.Device.{buffered_frame}

@@ -4,6 +4,7 @@
 // The rules are definitions of `specs/`: `Device` (the state, and a unit at first), `Faults` (why a command is not carried out), `Commands` (what
 // it does when it is), `Work` (the work step), `Receive` and `Answers` (bytes that arrive). Demand 3 is proved of these; the code stands above.
 #![tactic(auto)]
+
 use file_rules::Job;
 use link_rules::Link;
 use message_rules::{Refusal, Verdict};

@@ -1,5 +1,6 @@
 // A unit at first, without a transfer, and the frame that a transfer's buffer holds.
 #![tactic(auto)]
+
 ghost use Rattle.std.specs.Prelude.{◌≡◌, length};
 ghost use Rattle.message_rules.specs.Answer.{value_result};
 ghost use Rattle.device_rules.specs.Device.{buffered_frame, no_transfer, new_device, make};

@@ -1,5 +1,6 @@
 // The frame checksum, a byte at a time by a table. Unit and sender know it by `specs/Checksum.antt` and the laws of `file_rules`.
 #![tactic(auto)]
+
 ghost use Rattle.std.specs.Prelude.{◌≡◌};
 ghost use Rattle.file_rules.specs.Checksum.{checksum};
 

@@ -1,5 +1,6 @@
 // The file of an upload, by the rules of `file_rules`: its legal sizes, how many frames it has, and each of them.
 #![tactic(auto)]
+
 ghost use Rattle.std.specs.Prelude.{◌≡◌};
 ghost use Rattle.file_rules.specs.File.{size_legal, frame_count, file_frame};
 

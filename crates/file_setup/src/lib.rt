@@ -1,5 +1,6 @@
 // The setup's payload (document 02, ticket 5): reading it, and writing it. The rules are `specs/Setup.antt` of `file_rules`.
 #![tactic(auto)]
+
 ghost use Rattle.std.specs.Prelude.{◌≡◌};
 ghost use Rattle.file_rules.specs.Setup.{setup_read, setup_bytes};
 

@@ -3,6 +3,7 @@
 // The rules are definitions of `specs/`: `Listing` (which frames there are, and what is said of each) and `Lines` (a line and its
 // text).
 #![tactic(auto)]
+
 use message_rules::Kind;
 
 // What stands for the kind: the kind's name, or `refused`.

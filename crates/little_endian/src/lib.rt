@@ -1,5 +1,6 @@
 // Numbers of several bytes, little endian: the widths that the protocol uses. The rules are `little_endian_rules`.
 #![tactic(auto)]
+
 ghost use Rattle.std.specs.Prelude.{◌≡◌, [], ◌∷◌};
 ghost use Rattle.little_endian_rules.specs.LittleEndian.{from_bytes, to_bytes};
 

@@ -51,7 +51,7 @@ abbrev pub Finishes : Link → Type 0
 Finishes l =
     let unit = (all_delivered l).device in
     (unit.link ≡ l)
-    × (unit.own_val ≡ 31)
+    × (unit.own ≡ 31)
     × (is_open unit.transfer.phase ≡ false)
     × (unit.transfer.pending ≡ false)
     × (unit.transfer.job ≡ JobOf.None)

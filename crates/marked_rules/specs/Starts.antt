@@ -19,7 +19,7 @@ use Rattle.marked_rules.specs.Cases.{file, empty_store, opened, all_delivered}
 -- The world of P11 and P12 on a link, after a setup that was addressed so, lent this output, and replied to so.
 pub record StartAfter (l : Link) (a : Addressing) (out : List ℕ) (replies : Device → Reply) : Type 0 where
   pub start : AcceptedSetup file (opened l)
-  pub setup_addressed : addressing start.unit.link start.unit.own_val start.message ≡ a
+  pub setup_addressed : addressing start.unit.link start.unit.own start.message ≡ a
   pub lent : start.output ≡ out
   pub replied : start.reply ≡ replies (opened l).device
 

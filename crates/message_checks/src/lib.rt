@@ -3,6 +3,7 @@
 // is no error byte. It takes the tests of ID and length from `message_ranges`.
 // The rules are definitions of `message_rules`: `Checks`.
 #![tactic(auto)]
+
 ghost use Rattle.std.specs.Prelude.{◌≡◌};
 ghost use Rattle.message_rules.specs.Answer.{verdict_result};
 ghost use Rattle.message_rules.specs.Checks.{field_checks, error_told, writable, write_checks, data_fits, data_checks};

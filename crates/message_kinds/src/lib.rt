@@ -1,5 +1,6 @@
 // What stands in a table by the kind. The tables are definitions of `message_rules`: `Kinds`.
 #![tactic(auto)]
+
 ghost use Rattle.std.specs.Prelude.{◌≡◌};
 ghost use Rattle.message_rules.specs.Kinds.{error_length, type_number, type_kind, is_nack, is_event};
 

@@ -1,5 +1,6 @@
 // Puts bytes, unchanged, into a lent output.
 #![tactic(auto)]
+
 ghost use Rattle.std.specs.Prelude.{◌≡◌};
 ghost use Rattle.message_rules.specs.Answer.{write_result, within, counted, output_after, written};
 

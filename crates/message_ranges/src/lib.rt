@@ -1,6 +1,7 @@
 // What each kind allows: whether an ID, a payload's length or an error byte is in the kind's range (`table` has the ranges), and whether a
 // number is in a range. The rules are definitions of `message_rules`: `Checks` and `Kinds`.
 #![tactic(auto)]
+
 mod table;
 
 ghost use Rattle.std.specs.Prelude.{◌≡◌};

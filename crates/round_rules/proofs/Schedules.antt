@@ -11,9 +11,9 @@ use Rattle.round_rules.specs.Schedule.{comes_back, is_good, goods, output, excha
 use Rattle.round_rules.specs.declared.Fate.{Fate}
 use Rattle.round_rules.specs.declared.Fate.TheVariants.{Delivered, RequestLost, AnswerLost, Twice}
 use Rattle.round_rules.specs.declared.Round.{Round}
-use Rattle.round_rules.specs.World.{World, Call, works, asks, arrives, hears, runs_on, does, run, is_refused, answer_check, is_failed, call_check}
+use Rattle.round_rules.specs.World.{World, Call, works, asks, arrives, runs_on, does, run, is_refused, answer_check, is_failed, call_check}
 use Rattle.round_rules.proofs.Lists.{run-append}
-use Rattle.round_rules.proofs.Steady.{runs, ended, Shape, Steady, Free, HasEnded, Invariant, clash, over}
+use Rattle.round_rules.proofs.Steady.{runs, ended, Shape, Steady, Free, HasEnded, Invariant, clash}
 
 -- No call of a list is refused.
 unfoldable pub Unrefused : {S : Type 0} → Requester S → World S → List Call → Type 0

@@ -5,6 +5,7 @@
 // a round does to the state) and `Sending` (the sender as the side that asks). `proofs/Stages.antt` has document 01's sentences on the stages as
 // laws of them, and `proofs/Steps.antt` what rounds count.
 #![tactic(auto)]
+
 use file_rules::Job;
 use link_rules::Link;
 use message_rules::Refusal;

@@ -1,6 +1,7 @@
 // What document 01 settles for each serial link and both directions: ESC and the tail, the start bytes, what stands in front of the data,
 // and the source. The rules are `serial_rules`'s.
 #![tactic(auto)]
+
 ghost use Rattle.std.specs.Prelude.{◌≡◌};
 ghost use Rattle.serial_rules.specs.Stuffing.{esc, tail_byte};
 ghost use Rattle.serial_rules.specs.Frames.{start_row, id_length, address_length, source_legal};
@@ -62,6 +63,7 @@ pub fn tail(link: SerialLink) -> u8
 }
 
 // The row of a start byte of a link.
+#[tactic(auto, unfolding(serial_rules::specs::Frames::start_row))]
 pub fn start_row(link: SerialLink, start: u8) -> RowLookup
     ensures { result ≡ start_row link start }
 {
@@ -104,6 +106,7 @@ pub fn address_length(link: SerialLink) -> usize
     }
 }
 
+#[tactic(auto, unfolding(serial_rules::specs::Frames::source_legal))]
 pub fn source_legal(link: SerialLink, source: u8) -> bool
     ensures { result ≡ source_legal link source }
 {

@@ -6,6 +6,7 @@ use message_rules::{Kind, KindLookup};
 use serial_rules::StartRow;
 
 // The kind of a row and an ID; an event has no ID.
+#[tactic(auto, unfolding(serial_rules::specs::Frames::kind_of))]
 pub(crate) fn kind_of(row: StartRow, id: u8) -> KindLookup
     ensures { result ≡ kind_of row id }
 {
@@ -17,6 +18,7 @@ pub(crate) fn kind_of(row: StartRow, id: u8) -> KindLookup
     }
 }
 
+#[tactic(auto, unfolding(serial_rules::specs::Frames::by_id))]
 fn by_id(id: u8, telecommand: Kind, telemetry: Kind) -> KindLookup
     ensures { result ≡ by_id id telecommand telemetry }
 {

@@ -1,5 +1,6 @@
 // Reading a frame of UART or RS485, by the rules of `serial_rules`.
 #![tactic(auto)]
+
 mod kind;
 mod reader;
 mod undouble;

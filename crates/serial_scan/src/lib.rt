@@ -1,6 +1,7 @@
 // The scan of a serial frame, from a place inside it to where it ends or is broken off: reader and listing both use it. ESC and the
 // tail are those of the link that is read. The rules are `serial_rules`'s: `Stuffing`.
 #![tactic(auto)]
+
 ghost use Rattle.std.specs.Prelude.{◌≡◌};
 ghost use Rattle.serial_scan.specs.Scan.{found, scan_from};
 

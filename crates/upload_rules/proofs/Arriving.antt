@@ -60,6 +60,17 @@ arrived_stands Take loaded f i h = h
 arrived_stands Take pending f i h = h
 arrived_stands Confirm free f i h = h
 arrived_stands Confirm pending f i h = h
+arrived_stands Setup loaded f i h = elim h [ ]
+arrived_stands Setup pending f i h = elim h [ ]
+arrived_stands Frame closed f i h = elim h [ ]
+arrived_stands Frame pending f i h = elim h [ ]
+arrived_stands Back b f i h = elim h [ ]
+arrived_stands Compare closed f i h = elim h [ ]
+arrived_stands Compare free f i h = elim h [ ]
+arrived_stands Compare pending f i h = elim h [ ]
+arrived_stands Take closed f i h = elim h [ ]
+arrived_stands Confirm closed f i h = elim h [ ]
+arrived_stands Confirm loaded f i h = elim h [ ]
 
 pub arrived_quiet : (d : Bool) (stage : Stage) (b : Situation) → Quiet d stage b → Quiet d stage (arrived_situation stage b)
 arrived_quiet false stage b h = tt
@@ -71,10 +82,12 @@ arrived_quiet true Take b h = tt
 arrived_quiet true Confirm closed h = tt
 arrived_quiet true Confirm free h = tt
 arrived_quiet true Confirm loaded h = tt
+arrived_quiet true Confirm pending h = elim h [ ]
 
 -- At D a pending frame makes the sender stay, which is no good round.
 waits : (d : Bool) → Quiet d Confirm pending → d ≡ false
 waits false h = refl
+waits true h = elim h [ ]
 
 module _ (u : Upload) (b : List ℕ) (f since rounds : ℕ) (h : f < frames u) where
   -- The store is as long as at the start.
@@ -113,6 +126,7 @@ module _ (u : Upload) (b : List ℕ) (f since rounds : ℕ) (h : f < frames u) w
   says : (job : Job) → Announces job u.number → JobAt Setup job → setup_read (setup_payload (length u.file) job) ≡ SetupAnswerOf.Setup (length u.file) u.number
   unfolding setup_payload
   says (JobOf.Number n) a j = rw a.0 (written_read (length u.file) u.number (omega (arith, (count-legal (length u.file) u.legal).2)) a.1)
+  says JobOf.None a j = elim j [ ]
 
   pub arrival : (d : Bool) (stage : Stage) (c : Situation) (i : ℕ) (buffer : List ℕ) (buffered : ℕ) → Reads stage → JobAt stage u.job → Stands stage c f i → Quiet d stage c
       → Holding u c i (take buffered buffer) → Arrival d stage (unit_in u c i buffer buffered) i (arrived_situation stage c)
@@ -193,6 +207,17 @@ module _ (u : Upload) (b : List ℕ) (f since rounds : ℕ) (h : f < frames u) w
         holding = rw (← e) c;
         leads = waits d q;
       })
+  arrival d Setup loaded i buffer buffered r j e q c = elim e [ ]
+  arrival d Setup pending i buffer buffered r j e q c = elim e [ ]
+  arrival d Frame closed i buffer buffered r j e q c = elim e [ ]
+  arrival d Frame pending i buffer buffered r j e q c = elim e [ ]
+  arrival d Back _ i buffer buffered r j e q c = elim e [ ]
+  arrival d Compare closed i buffer buffered r j e q c = elim e [ ]
+  arrival d Compare free i buffer buffered r j e q c = elim e [ ]
+  arrival d Compare pending i buffer buffered r j e q c = elim e [ ]
+  arrival d Take closed i buffer buffered r j e q c = elim e [ ]
+  arrival d Confirm closed i buffer buffered r j e q c = elim e [ ]
+  arrival d Confirm loaded i buffer buffered r j e q c = elim e [ ]
 
 -- What arrives is take frame f at stage C alone.
 abbrev pub takes : Stage → ℕ → ℕ → Bool
@@ -238,6 +263,17 @@ arrived_mark Take pending f i j h = rw h (by (eqb f j) refl)
     by false e = refl
 arrived_mark Confirm free f i j h = refl
 arrived_mark Confirm pending f i j h = refl
+arrived_mark Setup loaded f i j h = elim h [ ]
+arrived_mark Setup pending f i j h = elim h [ ]
+arrived_mark Frame closed f i j h = elim h [ ]
+arrived_mark Frame pending f i j h = elim h [ ]
+arrived_mark Back b f i j h = elim h [ ]
+arrived_mark Compare closed f i j h = elim h [ ]
+arrived_mark Compare free f i j h = elim h [ ]
+arrived_mark Compare pending f i j h = elim h [ ]
+arrived_mark Take closed f i j h = elim h [ ]
+arrived_mark Confirm closed f i j h = elim h [ ]
+arrived_mark Confirm loaded f i j h = elim h [ ]
 
 -- And a setup is what arrives at the first stage alone.
 abbrev pub sets : Stage → Bool
@@ -268,3 +304,14 @@ arrived-sets Take loaded f i h = refl
 arrived-sets Take pending f i h = refl
 arrived-sets Confirm free f i h = refl
 arrived-sets Confirm pending f i h = refl
+arrived-sets Setup loaded f i h = elim h [ ]
+arrived-sets Setup pending f i h = elim h [ ]
+arrived-sets Frame closed f i h = elim h [ ]
+arrived-sets Frame pending f i h = elim h [ ]
+arrived-sets Back b f i h = elim h [ ]
+arrived-sets Compare closed f i h = elim h [ ]
+arrived-sets Compare free f i h = elim h [ ]
+arrived-sets Compare pending f i h = elim h [ ]
+arrived-sets Take closed f i h = elim h [ ]
+arrived-sets Confirm closed f i h = elim h [ ]
+arrived-sets Confirm loaded f i h = elim h [ ]

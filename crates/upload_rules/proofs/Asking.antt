@@ -54,7 +54,7 @@ request-plain Confirm s t job file f = record { plain = refl; tells = refl; fiel
 
 request-sent : (u : Upload) (stage : Stage) (f : ℕ) → Arrives u.unit.link (request_at u.source u.destination stage) (request_payload stage u.job u.file f)
 request-sent u stage f =
-    request_arrives_lem u.unit.link u.source u.destination u.unit.own_val (request_id stage) (request_kind stage) (request_payload stage u.job u.file f) u.addressed (request-plain stage u.source u.destination u.job u.file f)
+    request_arrives_lem u.unit.link u.source u.destination u.unit.own (request_id stage) (request_kind stage) (request_payload stage u.job u.file f) u.addressed (request-plain stage u.source u.destination u.job u.file f)
 
 -- The request of a running sender.
 pub asks-bytes : (u : Upload) (s : Sender) (stage : Stage) (f since rounds : ℕ) → s ≡ sender u f stage since rounds Running

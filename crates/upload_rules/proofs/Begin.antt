@@ -67,7 +67,7 @@ module _ (file : List ℕ) (w : World Sender) where
     pub announces : Announces job number
     pub source : ℕ
     pub destination : ℕ
-    pub addressed : Addressed unit.link source destination unit.own_val
+    pub addressed : Addressed unit.link source destination unit.own
     pub legal : size_legal (length file) ≡ true
 
   abbrev pub upload : Grounds → Upload
@@ -112,7 +112,7 @@ module _ (file : List ℕ) (w : World Sender) where
     unfolding start
     is-new = sym (after-given _ _ w.requester tt tt started).1
 
-    module _ (addressed : unit.link ≡ Rs485 → destination ≡ unit.own_val) (number : ℕ) (announces : Announces job number)
+    module _ (addressed : unit.link ≡ Rs485 → destination ≡ unit.own) (number : ℕ) (announces : Announces job number)
         (taken : setup_fault unit (length w.store) (Setup (length file) number) ≡ None) where
       abbrev grounds : Grounds
       grounds =
@@ -124,7 +124,7 @@ module _ (file : List ℕ) (w : World Sender) where
             announces = announces;
             source = source;
             destination = destination;
-            addressed = addresses unit.link source destination unit.own_val addresses_checked addressed;
+            addressed = addresses unit.link source destination unit.own addresses_checked addressed;
             legal = size_checked;
           }
 

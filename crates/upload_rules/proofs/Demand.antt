@@ -31,10 +31,10 @@ use Rattle.upload_rules.specs.SetUp.{set_up_call}
 use Rattle.sender_rules.specs.Hearing.{job_steps}
 use Rattle.sender_rules.specs.Sender.{frames_known}
 use Rattle.sender_rules.specs.Sending.{sending}
-use Rattle.upload_rules.specs.Stored.{Mark, waiting, taken, stored, is_stored, count_stored, mark_call, frames_stored}
+use Rattle.upload_rules.specs.Stored.{Mark, waiting, taken, is_stored, count_stored, mark_call, frames_stored}
 use Rattle.sender_rules.specs.declared.Sender.{Sender}
 use Rattle.sender_rules.specs.declared.Stage.{Stage}
-use Rattle.sender_rules.specs.declared.Stage.TheVariants.{Setup, Frame, Compare, Take, Confirm}
+use Rattle.sender_rules.specs.declared.Stage.TheVariants.{Setup, Frame, Back, Compare, Take, Confirm}
 use Rattle.upload_rules.proofs.Begin.{upload, told_first, Begun, begun}
 use Rattle.upload_rules.proofs.Counting.{count_below}
 use Rattle.upload_rules.proofs.Files.{store-first, whole-file}
@@ -71,6 +71,17 @@ known-between Take loaded f i e = (omega arith, omega arith)
 known-between Take pending f i e = (omega arith, omega arith)
 known-between Confirm free f i e = (omega arith, omega arith)
 known-between Confirm pending f i e = (omega arith, omega arith)
+known-between Setup loaded f i e = elim e [ ]
+known-between Setup pending f i e = elim e [ ]
+known-between Frame closed f i e = elim e [ ]
+known-between Frame pending f i e = elim e [ ]
+known-between Back b f i e = elim e [ ]
+known-between Compare closed f i e = elim e [ ]
+known-between Compare free f i e = elim e [ ]
+known-between Compare pending f i e = elim e [ ]
+known-between Take closed f i e = elim e [ ]
+known-between Confirm closed f i e = elim e [ ]
+known-between Confirm loaded f i e = elim e [ ]
 
 -- The store is as it was before the setup, and counts what is stored from then on.
 unopened : (u : Upload) (i : ℕ) (b : Situation) (content : List ℕ) → Holding u b i content → is_set_up b ≡ false → i ≡ 0

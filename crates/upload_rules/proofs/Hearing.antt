@@ -13,7 +13,7 @@ use Rattle.sender_rules.specs.Hearing.{stage_steps, most_waits, one_more, waited
 use Rattle.sender_rules.specs.declared.Meaning.TheVariants.{Stay, Forward}
 use Rattle.sender_rules.specs.declared.Sender.{Sender}
 use Rattle.sender_rules.specs.declared.Stage.{Stage}
-use Rattle.sender_rules.specs.declared.Stage.TheVariants.{Setup, Frame, Compare, Take, Confirm}
+use Rattle.sender_rules.specs.declared.Stage.TheVariants.{Setup, Frame, Back, Compare, Take, Confirm}
 use Rattle.round_rules.specs.declared.State.TheVariants.{Running, Finished, GivenUp}
 use Rattle.round_rules.specs.Legal.{Place}
 use Rattle.round_rules.specs.World.{World}
@@ -21,7 +21,7 @@ use Rattle.round_rules.proofs.Counting.{length-round, tally_waits, tally-over, t
 use Rattle.sender_rules.proofs.Sizes.{count-legal}
 use Rattle.sender_rules.proofs.Steps.{JobAt}
 use Rattle.round_rules.proofs.Steady.{runs, ended}
-use Rattle.upload_rules.proofs.Table.{Upload, Situation, free, loaded, pending, Stands, Goes, Told, frames, sender, RunningState, gave_up, done, RunsOrEnded, few_steps, job-most}
+use Rattle.upload_rules.proofs.Table.{Upload, Situation, closed, free, loaded, pending, Stands, Goes, Told, frames, sender, RunningState, gave_up, done, RunsOrEnded, few_steps, job-most}
 
 -- Whether no frame comes after frame f, or one does.
 last_frame : (u : Upload) (f since rounds : ℕ) → has_next (sender u f Confirm since rounds Running) ≡ false → f < frames u → f + 1 ≡ frames u
@@ -35,6 +35,7 @@ next-frame u f since rounds e = ltb-true (f + 1) (frames u) e
 -- Setup's ack is a step: a sender at that stage has a job.
 set_up_lem : (job : Job) → JobAt Setup job → (f : ℕ) → 4 * f + stage_steps job Setup + 1 ≡ 4 * f + stage_steps job Frame
 set_up_lem (JobOf.Number n) j f = omega arith
+set_up_lem JobOf.None j f = elim j [ ]
 
 module _ (u : Upload) (w : World Sender) (past : List Bool) (told : Told) where
   abbrev pub handed : Sender → World Sender
@@ -114,3 +115,18 @@ module _ (u : Upload) (w : World Sender) (past : List Bool) (told : Told) where
       by Take e free c s g = rw e (onward p r h h.row.frame Confirm (rw c s) tt h.below (rw e (omega arith)))
       by Take e pending c s g = rw e (onward p r h h.row.frame Confirm (rw c s) tt h.below (rw e (omega arith)))
       by Confirm e free c s g = rw e (past_last p r h e c s)
+      by Setup e closed c s g = elim g [ ]
+      by Setup e loaded c s g = elim s [ ]
+      by Setup e pending c s g = elim s [ ]
+      by Frame e closed c s g = elim s [ ]
+      by Frame e free c s g = elim g [ ]
+      by Frame e pending c s g = elim s [ ]
+      by Back e b c s g = elim s [ ]
+      by Compare e closed c s g = elim s [ ]
+      by Compare e free c s g = elim s [ ]
+      by Compare e pending c s g = elim s [ ]
+      by Take e closed c s g = elim s [ ]
+      by Take e loaded c s g = elim g [ ]
+      by Confirm e closed c s g = elim s [ ]
+      by Confirm e loaded c s g = elim s [ ]
+      by Confirm e pending c s g = elim g [ ]

@@ -17,7 +17,7 @@ use Rattle.sender_rules.specs.Hearing.{meaning, round_over, hear}
 use Rattle.sender_rules.specs.Sender.{same_file, request}
 use Rattle.round_rules.specs.Requester.{sent, shared, lent, kept}
 use Rattle.sender_rules.specs.declared.Meaning.{Meaning}
-use Rattle.sender_rules.specs.declared.Meaning.TheVariants.{Stay, Forward}
+use Rattle.sender_rules.specs.declared.Meaning.TheVariants.{Stay, Forward, Differs, Flagged}
 use Rattle.sender_rules.specs.declared.Sender.{Sender}
 use Rattle.round_rules.specs.declared.State.TheVariants.{Running}
 use Rattle.round_rules.specs.Legal.{Place, begun, asked, arrived, repeated, between}
@@ -195,6 +195,8 @@ module _ (u : Upload) where
         by : (x : Meaning) → Leads x d h.row.stage h.row.situation → RunsOrEnded u (handed u w past told (round_over (sender u h.row.frame h.row.stage h.since (length past) Running) x)) (past ++ (d ∷ [])) told
         by Stay e = rw e (stays u w past told p h)
         by Forward g = goes u w past told p d h g
+        by Differs e = elim e [ ]
+        by Flagged e = elim e [ ]
 
     goes_on_lem : (p : Place) → RunningState u w past told p → runs_on (sending u.file) w ≡ true
     goes_on_lem p h = rw h.sends

@@ -52,7 +52,7 @@ pub record Upload : Type 0 where
   pub announces : Announces job number
   pub source : ℕ
   pub destination : ℕ
-  pub addressed : Addressed unit.link source destination unit.own_val
+  pub addressed : Addressed unit.link source destination unit.own
   pub legal : size_legal (length file) ≡ true
   pub room : length file ≤ length start
 

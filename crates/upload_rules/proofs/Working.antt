@@ -47,6 +47,17 @@ worked_stands Take loaded f i h = h
 worked_stands Take pending f i h = rw h
 worked_stands Confirm free f i h = h
 worked_stands Confirm pending f i h = rw h
+worked_stands Setup loaded f i h = elim h [ ]
+worked_stands Setup pending f i h = elim h [ ]
+worked_stands Frame closed f i h = elim h [ ]
+worked_stands Frame pending f i h = elim h [ ]
+worked_stands Back b f i h = elim h [ ]
+worked_stands Compare closed f i h = elim h [ ]
+worked_stands Compare free f i h = elim h [ ]
+worked_stands Compare pending f i h = elim h [ ]
+worked_stands Take closed f i h = elim h [ ]
+worked_stands Confirm closed f i h = elim h [ ]
+worked_stands Confirm loaded f i h = elim h [ ]
 
 -- and nothing is pending then.
 pub worked_quiet : (stage : Stage) (b : Situation) → Quiet true stage (worked_situation b)

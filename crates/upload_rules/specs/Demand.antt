@@ -48,7 +48,7 @@ pub record AcceptedSetup (file : List ℕ) (w : World Sender) : Type 0 where
   pub setup : message.id ≡ 20
   pub number : ℕ
   pub announces : setup_read payload ≡ Setup (length file) number
-  pub for_unit : addressing unit.link unit.own_val message ≡ Other → ⊥
+  pub for_unit : addressing unit.link unit.own message ≡ Other → ⊥
   -- no fault kept the unit from carrying it out, and it was no repeat: "an acked repeat doesn't count as its accepted setup" (document 02,
   -- ticket 5); the call was not refused (the reply says whether it was answered, and the answer has the bytes, none in silence), and w has the unit
   -- that it left;
@@ -61,7 +61,7 @@ pub record AcceptedSetup (file : List ℕ) (w : World Sender) : Type 0 where
   pub source : ℕ
   pub destination : ℕ
   pub started : start unit.link source destination (length file) JobOf.None ≡ given w.requester tt
-  pub addressed : unit.link ≡ Rs485 → destination ≡ unit.own_val
+  pub addressed : unit.link ≡ Rs485 → destination ≡ unit.own
 
 -- Document 02, ticket 5: "Demand 3 may then begin there, its premises running from that sender's start,
 pub record StartedJob (file : List ℕ) (w : World Sender) : Type 0 where

@@ -1,7 +1,5 @@
 -- Carried by the stores themselves: a run of stores computes to them, once it is known how many bytes tell the error.
-use borrow.Author.Rules.{rules}
 use native.Mathlib.Omega.{arith}
-use lib.ListN.{length-set}
 use Prim.Native.Nat.{◌≤◌}
 use Rattle.csp_rules.specs.Csp.{csp_head}
 use Rattle.message_rules.specs.Data.{error_bytes}

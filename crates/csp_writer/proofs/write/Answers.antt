@@ -1,5 +1,4 @@
 -- Carried by what the checks answer, in each of its cases.
-use borrow.Author.Rules.{rules}
 use mathlib.Core.Path.{refl}
 use Rattle.message_rules.specs.Answer.{verdict_result, write_result, after, within, counted, output_after}
 use Rattle.csp_rules.specs.Csp.{csp_write}

@@ -1,5 +1,4 @@
 -- Carried by arithmetic: the sum of the places is the nested one.
-use borrow.Author.Rules.{rules}
 use native.Mathlib.Omega.{arith}
 use Rattle.little_endian_rules.specs.LittleEndian.{from_bytes}
 use Rattle.little_endian.proofs.u16_from_bytes.Goals as goal

@@ -1,5 +1,4 @@
 -- Carried by computation: the code divides as the definition does.
-use borrow.Author.Rules.{rules}
 use mathlib.Core.Path.{refl}
 use Rattle.little_endian_rules.specs.LittleEndian.{to_bytes}
 use Rattle.little_endian.proofs.u32_to_bytes.Goals as goal

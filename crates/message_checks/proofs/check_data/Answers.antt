@@ -1,5 +1,4 @@
 -- Carried by congruence with what the shared checks answer.
-use borrow.Author.Rules.{rules}
 use Rattle.message_rules.specs.Checks.{data_checks}
 use Rattle.message_checks.proofs.check_data.Goals as goal
 

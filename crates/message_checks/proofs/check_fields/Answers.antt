@@ -1,6 +1,4 @@
 -- Carried by the tests in their order: each return rewrites with those that led there.
-use borrow.Author.Rules.{rules}
-use borrow.Author.Tests.{not-true, not-false}
 use Rattle.message_rules.specs.Answer.{verdict_result, require}
 use Rattle.message_rules.specs.Checks.{field_checks}
 use Rattle.message_checks.proofs.check_fields.Goals as goal

@@ -1,5 +1,4 @@
 -- Carried by the test of the length against what tells the error.
-use borrow.Author.Rules.{rules}
 use Rattle.message_rules.specs.Checks.{data_fits}
 use borrow.Author.Tests.{le-leb, lt-leb}
 use Rattle.message_checks.proofs.data_fits.Goals as goal

@@ -1,5 +1,4 @@
 -- Carried by the case of the error byte.
-use borrow.Author.Rules.{rules}
 use Rattle.message_rules.specs.Checks.{error_told}
 use Rattle.message_checks.proofs.error_told.Goals as goal
 

@@ -1,5 +1,4 @@
 -- Carried by the tests in their order: each return rewrites with those that led there.
-use borrow.Author.Rules.{rules}
 use Rattle.message_rules.specs.Checks.{writable}
 use Rattle.message_checks.proofs.writable.Goals as goal
 

@@ -1,10 +1,7 @@
 -- Carried by the laws of a copy: before a turn the output holds the first i bytes over what was there.
-use Prim.Native.Nat.{◌≤◌, ◌-◌}
-use mathlib.Core.Path.{◌≡◌, refl, ◌∙◌}
-use mathlib.Core.List.{◌++◌}
+use mathlib.Core.Path.{refl, ◌∙◌}
 use native.Mathlib.Omega.{arith}
-use borrow.Author.Rules.{rules}
-use lib.ListN.{length, take, drop, length-set}
+use lib.ListN.{length-set}
 use Rattle.message_rules.specs.Answer.{write_result, counted, output_after}
 use Rattle.message_rules.proofs.Answers.{too_short, long_enough, copy_step, copy_done}
 use Rattle.message_output.proofs.put.Goals as goal

@@ -1,12 +1,8 @@
 -- Carried by the laws of a copy: before a turn the output holds the first i bytes over what was there.
 use Prim.Native.Nat.{◌≤◌, ◌-◌}
-use mathlib.Core.Path.{◌≡◌, refl, ◌∙◌}
+use mathlib.Core.Path.{◌≡◌}
 use mathlib.Core.List.{◌++◌}
-use native.Mathlib.Omega.{arith}
-use borrow.Author.Rules.{rules}
-use lib.ListN.{length, take, drop, length-set}
-use Rattle.message_rules.specs.Answer.{write_result, counted, output_after}
-use Rattle.message_rules.proofs.Answers.{too_short, long_enough, copy_step, copy_done}
+use lib.ListN.{length, take, drop}
 use Rattle.message_output.proofs.put.Given as goal
 
 abbrev pub invariant-loop-i : goal.invariant-loop-i

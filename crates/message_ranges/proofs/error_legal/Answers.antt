@@ -1,5 +1,4 @@
 -- Carried by the case of the error byte, and the kind's range.
-use borrow.Author.Rules.{rules}
 use Rattle.message_rules.specs.Checks.{error_legal}
 use Rattle.message_ranges.proofs.error_legal.Goals as goal
 

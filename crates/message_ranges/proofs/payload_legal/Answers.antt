@@ -1,5 +1,4 @@
 -- Carried by congruence: the row has the kind's range.
-use borrow.Author.Rules.{rules}
 use Rattle.message_rules.specs.Checks.{payload_legal}
 use Rattle.message_ranges.proofs.payload_legal.Goals as goal
 

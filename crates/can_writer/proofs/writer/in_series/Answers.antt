@@ -1,5 +1,4 @@
 -- Carried by the test for an event: it alone decides, or the length does.
-use borrow.Author.Rules.{rules}
 use Rattle.can_rules.specs.Can.{in_series}
 use Rattle.can_writer.proofs.writer.in_series.Goals as goal
 

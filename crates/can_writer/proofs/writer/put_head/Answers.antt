@@ -1,10 +1,8 @@
 -- Carried by the stores themselves: a run of stores computes to them.
-use borrow.Author.Rules.{rules}
 use native.Mathlib.Omega.{arith}
 use native.Mathlib.Numerals.{add-one}
 use Prim.Native.Nat.{suc, ◌+◌}
 use mathlib.Core.Path.{◌≡◌}
-use lib.ListN.{length-set}
 use Rattle.can_rules.specs.Can.{identifier}
 use Rattle.can_writer.proofs.writer.put_head.Goals as goal
 

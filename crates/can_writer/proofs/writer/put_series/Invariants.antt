@@ -1,10 +1,6 @@
 -- Carried by the laws of a frame more and of the last: what is stored, with what is left to store, is always the whole.
-use mathlib.Core.Path.{refl}
-use native.Mathlib.Omega.{arith}
-use lib.ListN.{length-take, length-drop}
-use Rattle.can_rules.specs.Can.{identifier, frames_after}
-use Rattle.can_rules.proofs.Lengths.{identifier-length}
-use Rattle.can_writer.proofs.Writing.{Going, series_turn, series-end}
+use Rattle.can_rules.specs.Can.{identifier}
+use Rattle.can_writer.proofs.Writing.{Going}
 use Rattle.can_writer.proofs.writer.put_series.Given as goal
 
 abbrev pub invariant-loop-left : goal.invariant-loop-left

@@ -1,5 +1,4 @@
 -- Carried by the law of a frame's parts, each stored after the last.
-use borrow.Author.Rules.{rules}
 use native.Mathlib.Omega.{arith}
 use Rattle.can_rules.specs.Can.{identifier}
 use Rattle.can_rules.proofs.Lengths.{identifier-length}
@@ -11,5 +10,5 @@ pub returns : goal.returns
 returns c =
     let a = c.args in
     let head = c.put_head in
-    let filled = put-part a.payload.now head.new.1.1.1.0 _ 5 (omega (arith, head.auto)) c.put.ensures.out_after in
+    let filled = put-part a.payload.now head.new.out _ 5 (omega (arith, head.auto)) c.put.ensures.out_after in
     frame_stored_lem (identifier a.number a.message) (identifier-length a.number a.message) a.payload.now _ _ _ _ 0 head.ensures filled c.put_zeros.ensures

@@ -1,12 +1,9 @@
 -- Carried by the law of one byte more, of a list of zeros.
-use borrow.Author.Rules.{rules}
-use Prim.Native.Nat.{ℕ, ◌+◌, ◌-◌, ◌≤◌}
-use mathlib.Core.Path.{◌≡◌, refl, ◌∙◌, sym}
-use native.Mathlib.Nat.{add-zero}
+use Prim.Native.Nat.{ℕ}
+use mathlib.Core.Path.{◌∙◌}
 use native.Mathlib.Omega.{arith}
-use lib.ListN.{length, drop, replicate, length-set, length-replicate, get_or-replicate}
-use lib.Seq.{sets}
-use Rattle.message_rules.proofs.Stores.{store_turn, store-end}
+use lib.ListN.{replicate, length-set, length-replicate, get_or-replicate}
+use Rattle.message_rules.proofs.Stores.{store_turn}
 use Rattle.can_writer.proofs.writer.put_zeros.Goals as goal
 
 pub loop-i-preserved : goal.loop-i-preserved

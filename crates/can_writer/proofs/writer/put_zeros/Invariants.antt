@@ -1,12 +1,8 @@
 -- Carried by the law of one byte more, of a list of zeros.
-use borrow.Author.Rules.{rules}
-use Prim.Native.Nat.{ℕ, ◌+◌, ◌-◌, ◌≤◌}
-use mathlib.Core.Path.{◌≡◌, refl, ◌∙◌, sym}
-use native.Mathlib.Nat.{add-zero}
-use native.Mathlib.Omega.{arith}
-use lib.ListN.{length, drop, replicate, length-set, length-replicate, get_or-replicate}
+use Prim.Native.Nat.{◌+◌, ◌-◌, ◌≤◌}
+use mathlib.Core.Path.{◌≡◌}
+use lib.ListN.{length, drop, replicate}
 use lib.Seq.{sets}
-use Rattle.message_rules.proofs.Stores.{store_turn, store-end}
 use Rattle.can_writer.proofs.writer.put_zeros.Given as goal
 
 abbrev pub invariant-loop-i : goal.invariant-loop-i

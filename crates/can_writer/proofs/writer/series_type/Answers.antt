@@ -1,5 +1,6 @@
 -- Carried by the number that each arm matched, and in the last arm by its being none of them.
-use borrow.Author.Tests.{ne_eqb}
+use Rattle.std.proofs.Common.{arith}
+use Rattle.std.proofs.lemmas.Grind.{common_steps}
 use Rattle.can_rules.specs.Can.{series_type}
 use Rattle.can_writer.proofs.writer.series_type.Goals as goal
 
@@ -13,4 +14,4 @@ returns-in-5 c = rw c.in-5.is
 
 pub returns-in_default : goal.returns-in_default
 unfolding series_type
-returns-in_default c = let h = c.in_default.in_default-own.rest in rw (ne_eqb _ _ h.0.1, ne_eqb _ _ h.1)
+returns-in_default c = grind (arith, common_steps)

@@ -1,5 +1,4 @@
 -- Carried by the test for a series, which picks the bytes.
-use borrow.Author.Rules.{rules}
 use mathlib.Core.Path.{sym, ◌∙◌}
 use Rattle.can_rules.specs.Can.{can_bytes}
 use Rattle.can_rules.proofs.Lengths.{single_most}

@@ -1,5 +1,4 @@
 -- Carried by how many bytes tell the error.
-use borrow.Author.Rules.{rules}
 use borrow.Author.Tests.{le-leb, lt-leb}
 use Rattle.message_rules.specs.Kinds.{error_carried}
 use Rattle.message_fields.proofs.carried.error_carried.Goals as goal
