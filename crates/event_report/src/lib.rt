@@ -1,5 +1,6 @@
 // The report over an event log, in one pass. The rules are `event_rules`'s: `Reports`.
 #![tactic(auto)]
+
 ghost use Rattle.std.specs.Prelude.{◌+◌, ◌*◌, ◌≤◌, cond, ◌≡◌, length};
 ghost use Rattle.message_rules.specs.Answer.{given, after, value_result, value_after};
 ghost use Rattle.event_rules.specs.Records.{longest_log};

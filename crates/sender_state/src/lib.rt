@@ -1,6 +1,7 @@
 // The sender's state (document 01, "The sender and its rounds"): starting it, and what is read from it, the fields of its request and the
 // frames that are known to be stored. The type stands in the crate `sender_rules`, with the rules.
 #![tactic(auto)]
+
 mod starter;
 
 ghost use Rattle.std.specs.Prelude.{◌≡◌};

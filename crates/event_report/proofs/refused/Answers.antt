@@ -2,12 +2,8 @@
 use mathlib.Core.Path.{refl}
 use Rattle.event_rules.specs.Logs.{kept}
 use Rattle.event_rules.specs.Reports.{counts, class_counts, source_counts, earlier_count, report_of, no_report}
-use Rattle.event_report.proofs.refused.Statement.{statement}
-use Rattle.event_report.proofs.refused.Tie as tie
+use Rattle.event_report.proofs.refused.Goals as goal
 
-returns : tie.Need-returns
+pub returns : goal.returns
 unfolding kept counts class_counts source_counts earlier_count report_of no_report
 returns c = (refl, refl)
-
-pub refused_spec : {M : Type 1} → statement M
-refused_spec = tie.close (tie.spec returns)
