@@ -1,5 +1,4 @@
 -- Carried by the link: each arm is that link's own function.
-use borrow.Author.Rules.{rules}
 use Rattle.link_rules.specs.Link.{link_read}
 use Rattle.link_reader.proofs.read.Goals as goal
 
