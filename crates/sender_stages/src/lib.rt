@@ -1,5 +1,6 @@
 // The stages of the sender (document 01, "The sender and its rounds"): what a round does to it.
 #![tactic(auto)]
+
 mod table;
 
 ghost use Rattle.std.specs.Prelude.{◌≡◌};
