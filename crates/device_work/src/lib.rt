@@ -1,5 +1,6 @@
 // The work step (document 01, "The unit"): a pending frame goes after what is stored.
 #![tactic(auto)]
+
 ghost use Rattle.std.specs.Prelude.{◌≡◌, ◌+◌, ◌≤◌, cond, length};
 ghost use Rattle.message_rules.specs.Answer.{value_result};
 ghost use Rattle.device_rules.specs.Device.{buffered_frame};

@@ -6,31 +6,32 @@ ghost use Rattle.std.specs.Prelude.{◌≡◌, length};
 use crate::print;
 use event_rules::{LONGEST_LOG, RECORD_SIZE};
 use message_rules::Verdict;
+use std::io;
+use std::io::{Print, Read};
 
 // One byte more than a log may have, so that a longer input is seen.
 const INPUT: usize = LONGEST_LOG + 1;
 
-// Reports on what is read from a file descriptor: all of it, or as much as shows that it is too long.
-pub(crate) fn print_report(input: i32) {
+// Reports on what is read from an open file: all of it, or as much as shows that it is too long.
+pub(crate) fn print_report(rt: &impl Print, input: &mut impl Read) -> io::Result<()> {
     let mut bytes = input_space();
-    let n = io::read_full(input, &mut bytes);
+    let n = console::read_full(input, &mut bytes);
     if n < INPUT && failed(input) {
-        print::unread();
-        return;
+        return print::unread(rt);
     }
     let answer = event_report::report(&bytes[..n]);
     let counts = answer.counts;
     let verdict = answer.verdict;
     match verdict {
-        Verdict::Refused(refusal) => print::refused(refusal),
-        Verdict::Passed => print::report(n / RECORD_SIZE, counts),
+        Verdict::Refused(refusal) => print::refused(rt, refusal),
+        Verdict::Passed => print::report(rt, n / RECORD_SIZE, counts),
     }
 }
 
 // A read that failed ends early, as the end of a log does: another read tells them apart.
-fn failed(input: i32) -> bool {
+fn failed(input: &mut impl Read) -> bool {
     let mut more = [0u8; 1];
-    libc::read(input, &mut more) < 0
+    input.read(&mut more).is_err()
 }
 
 fn input_space() -> [u8; INPUT]

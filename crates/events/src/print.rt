@@ -1,78 +1,78 @@
 // The report as text, on standard output: a line for each count, `WHAT: COUNT`. A refused log has one line.
 use event_rules::EventReport;
-use libc::STDOUT_FILENO;
 use message_rules::Refusal;
+use std::io;
+use std::io::Print;
 
 // The classes have their names of Table 51, and its order. Of the sources only those that occur have a line.
-pub(crate) fn report(records: usize, report: EventReport) {
+pub(crate) fn report(rt: &impl Print, records: usize, report: EventReport) -> io::Result<()> {
     let classes = report.classes;
     let sources = report.sources;
-    line(b"records", records);
-    count(b"Critical", classes[3]);
-    count(b"Major Warning", classes[2]);
-    count(b"Minor Warning", classes[1]);
-    count(b"Information", classes[0]);
-    sources_that_occur(sources);
-    count(b"out of order", report.earlier);
+    line(rt, b"records", records)?;
+    count(rt, b"Critical", classes[3])?;
+    count(rt, b"Major Warning", classes[2])?;
+    count(rt, b"Minor Warning", classes[1])?;
+    count(rt, b"Information", classes[0])?;
+    sources_that_occur(rt, sources)?;
+    count(rt, b"out of order", report.earlier)
 }
 
-fn sources_that_occur(sources: [u32; 32]) {
-    let mut i = 0;
-    while i < 32 {
-        source(i, sources[i]);
-        i += 1;
+fn sources_that_occur(rt: &impl Print, sources: [u32; 32]) -> io::Result<()> {
+    for i in 0..32 {
+        source(rt, i, sources[i])?;
     }
+    Ok(())
 }
 
 // `source N: COUNT`, or nothing.
-fn source(place: usize, n: u32) {
+fn source(rt: &impl Print, place: usize, n: u32) -> io::Result<()> {
     if n == 0 {
-        return;
+        return Ok(());
     }
-    text(b"source ");
-    decimal(place);
-    count(b"", n);
+    text(rt, b"source ")?;
+    decimal(rt, place)?;
+    count(rt, b"", n)
 }
 
-fn count(what: &[u8], n: u32) {
-    line(what, n as usize);
+fn count(rt: &impl Print, what: &[u8], n: u32) -> io::Result<()> {
+    line(rt, what, n as usize)
 }
 
 // `WHAT: COUNT`
-fn line(what: &[u8], n: usize) {
-    text(what);
-    text(b": ");
-    decimal(n);
-    text(b"\n");
+fn line(rt: &impl Print, what: &[u8], n: usize) -> io::Result<()> {
+    text(rt, what)?;
+    text(rt, b": ")?;
+    decimal(rt, n)?;
+    text(rt, b"\n")
 }
 
 // `refused N: MEANING`
-pub(crate) fn refused(refusal: Refusal) {
-    text(b"refused ");
-    decimal(message_fields::refusal_number(refusal) as usize);
-    text(b": ");
-    meaning(refusal);
-    text(b"\n");
+pub(crate) fn refused(rt: &impl Print, refusal: Refusal) -> io::Result<()> {
+    text(rt, b"refused ")?;
+    decimal(rt, message_fields::refusal_number(refusal) as usize)?;
+    text(rt, b": ")?;
+    meaning(rt, refusal)?;
+    text(rt, b"\n")
 }
 
 // What the refusals of a report mean; it has no others.
-fn meaning(refusal: Refusal) {
+fn meaning(rt: &impl Print, refusal: Refusal) -> io::Result<()> {
     match refusal {
-        Refusal::PartialRecord => text(b"the length is not a multiple of 24"),
-        Refusal::IllegalMilliseconds => text(b"a record has milliseconds above 999"),
-        Refusal::LogTooLong => text(b"the log is longer than 65520 bytes"),
-        _ => text(b"not an event log"),
+        Refusal::PartialRecord => text(rt, b"the length is not a multiple of 24"),
+        Refusal::IllegalMilliseconds => text(rt, b"a record has milliseconds above 999"),
+        Refusal::LogTooLong => text(rt, b"the log is longer than 65520 bytes"),
+        _ => text(rt, b"not an event log"),
     }
 }
 
-pub(crate) fn unread() {
-    text(b"cannot be read\n");
+pub(crate) fn unread(rt: &impl Print) -> io::Result<()> {
+    text(rt, b"cannot be read\n")
 }
 
-fn text(bytes: &[u8]) {
-    io::write_all(STDOUT_FILENO, bytes);
+fn text(rt: &impl Print, bytes: &[u8]) -> io::Result<()> {
+    rt.write_all(bytes)
 }
 
-fn decimal(n: usize) {
-    io::print_decimal(STDOUT_FILENO, n as u64);
+fn decimal(rt: &impl Print, n: usize) -> io::Result<()> {
+    rt.print(n)
 }

@@ -5,8 +5,9 @@ ghost use Rattle.std.specs.Prelude.{◌≤◌, ◌≡◌, length, take};
 ghost use Rattle.io.specs.Counts.{IsPrefixLen};
 ghost use Rattle.listing_rules.specs.Listing.{listing, longest};
 
-use libc::STDOUT_FILENO;
 use message_rules::WriteAnswer;
+use std::io;
+use std::io::{Print, Read};
 
 // One byte more than may be listed, so that a longer input is seen.
 const INPUT: usize = 65537;
@@ -14,13 +15,13 @@ const INPUT: usize = 65537;
 // The longest listing.
 const TEXT: usize = 655380;
 
-// Lists what is read from a file descriptor: all of it, or as much as shows that it is too long.
-pub(crate) fn print_listing(input: i32) {
+// Lists what is read from an open file: all of it, or as much as shows that it is too long.
+pub(crate) fn print_listing(rt: &impl Print, input: &mut impl Read) -> io::Result<()> {
     let mut bytes = input_space();
-    let n = io::read_full(input, &mut bytes);
+    let n = console::read_full(input, &mut bytes);
     let mut text = text_space();
     let length = listed(&bytes[..n], &mut text);
-    io::write_all(STDOUT_FILENO, &text[..length]);
+    rt.write_all(&text[..length])
 }
 
 // Puts the listing over the start of an output that has room for every listing.

@@ -1,5 +1,6 @@
 // Writing a message on any of the four links. The rule is `specs/Link.antt` of `link_rules`.
 #![tactic(auto)]
+
 ghost use Rattle.std.specs.Prelude.{◌≡◌};
 ghost use Rattle.message_rules.specs.Answer.{write_result, within, counted, output_after};
 ghost use Rattle.link_rules.specs.Link.{link_write};

@@ -1,4 +1,6 @@
 // Files by their names.
+use std::fs::Files;
+use std::io::Read;
 
 // What came of reading a file: how many bytes lie at the start of the room, which is full where the file has more.
 #[derive(Clone, Copy)]
@@ -7,17 +9,18 @@ pub enum Input {
     Unread,
 }
 
-pub(crate) fn read(name: &[u8], room: &mut [u8]) -> Input {
-    let file = os::open_read(name);
-    if file < 0 {
-        return Input::Unread;
+pub(crate) fn read(rt: &impl Files, name: &[u8], room: &mut [u8]) -> Input {
+    match console::open(rt, name) {
+        Ok(mut file) => read_file(&mut file, room),
+        Err(_) => Input::Unread,
     }
-    let n = io::read_full(file, room);
+}
+
+fn read_file(file: &mut impl Read, room: &mut [u8]) -> Input {
+    let n = console::read_full(file, room);
     // A read that failed ends early, as the end of the file does: another read tells them apart.
     let mut more = [0u8; 1];
-    let got = libc::read(file, &mut more);
-    libc::close(file);
-    if got < 0 {
+    if file.read(&mut more).is_err() {
         return Input::Unread;
     }
     Input::Length(n)

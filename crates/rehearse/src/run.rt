@@ -9,6 +9,7 @@ use device::Device;
 use message_rules::Verdict;
 use round_rules::State;
 use sender_rules::Sender;
+use std::io::{IsTerminal, Print};
 
 // Two hundred rounds for each of 65,535 frames, and fifty for the setup: every sender has ended by then.
 const MOST: u32 = 13107050;
@@ -23,7 +24,14 @@ pub struct Ran {
 }
 
 // Makes the rounds of a course until the sender ends, with its file and the unit's store.
-pub(crate) fn run(unit: Device, first: Sender, course: Course, file: &[u8], store: &mut [u8]) -> Ran
+pub(crate) fn run(
+    errors: &(impl Print + IsTerminal),
+    unit: Device,
+    first: Sender,
+    course: Course,
+    file: &[u8],
+    store: &mut [u8],
+) -> Ran
     ensures leaves { Leaves file.now unit store.old first course result store.new }
     ensures result_value { run_over result ≡ true }
 {
@@ -50,7 +58,7 @@ pub(crate) fn run(unit: Device, first: Sender, course: Course, file: &[u8], stor
                 count,
             };
         }
-        progress::show(sender);
+        progress::show(errors, sender);
     }
     Ran {
         device,

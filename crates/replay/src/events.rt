@@ -5,28 +5,45 @@ use crate::keep::{Kept, with_log};
 use crate::plain::print_written;
 use crate::{call, print};
 use message_rules::Verdict;
+use std::io;
+use std::io::Print;
 
 // The space of a log: more than the library takes, so that a log too long can be tried.
 pub const LOG_SPACE: usize = 65600;
 
-pub(crate) fn make(call: Call, bytes: &[u8], kept: Kept, log: &mut [u8]) -> Kept {
+pub(crate) fn make(
+    rt: &impl Print,
+    call: Call,
+    bytes: &[u8],
+    kept: Kept,
+    log: &mut [u8],
+) -> io::Result<Kept> {
     let length = kept.log_length;
     match call[0] {
-        call::LOG => with_log(kept, append(front(bytes, call[1]), 1, log, 0)),
-        call::LOG_MORE => with_log(kept, append(front(bytes, call[2]), call[1], log, length)),
+        call::LOG => Ok(with_log(kept, append(rt, front(bytes, call[1]), 1, log, 0)?)),
+        call::LOG_MORE => Ok(with_log(
+            kept,
+            append(rt, front(bytes, call[2]), call[1], log, length)?,
+        )),
         _ => {
-            answer_call(call, bytes, front(log, length));
-            kept
+            answer_call(rt, call, bytes, front(log, length))?;
+            Ok(kept)
         }
     }
 }
 
 // log BYTES and log-more TIMES BYTES: puts bytes so many times behind a log of this length, and answers its length then. `log`
 // puts them behind an empty log.
-fn append(bytes: &[u8], times: usize, log: &mut [u8], length: usize) -> usize {
+fn append(
+    rt: &impl Print,
+    bytes: &[u8],
+    times: usize,
+    log: &mut [u8],
+    length: usize,
+) -> io::Result<usize> {
     if !has_room(log, length, bytes.len(), times) {
-        print::bad_line();
-        return length;
+        print::bad_line(rt)?;
+        return Ok(length);
     }
     let mut end = length;
     let mut left = times;
@@ -34,8 +51,8 @@ fn append(bytes: &[u8], times: usize, log: &mut [u8], length: usize) -> usize {
         end = append_once(bytes, log, end);
         left -= 1;
     }
-    print::ok_line();
-    end
+    print::ok_line(rt)?;
+    Ok(end)
 }
 
 // Whether a log of this length can take so many bytes so many times. A quotient, since the product could be too large.
@@ -61,53 +78,53 @@ fn append_once(bytes: &[u8], log: &mut [u8], end: usize) -> usize {
     end + bytes.len()
 }
 
-fn answer_call(call: Call, bytes: &[u8], log: &[u8]) {
+fn answer_call(rt: &impl Print, call: Call, bytes: &[u8], log: &[u8]) -> io::Result<()> {
     match call[0] {
-        call::EVENT_READ => read(log),
-        call::EVENT_WRITE => write(call, bytes),
-        call::EVENT_FILTER => filter(call, log),
-        _ => report(log),
+        call::EVENT_READ => read(rt, log),
+        call::EVENT_WRITE => write(rt, call, bytes),
+        call::EVENT_FILTER => filter(rt, call, log),
+        _ => report(rt, log),
     }
 }
 
 // event-read
-fn read(log: &[u8]) {
+fn read(rt: &impl Print, log: &[u8]) -> io::Result<()> {
     let answer = event_reader::read(log);
     let event = answer.event;
     let verdict = answer.verdict;
     match verdict {
-        Verdict::Refused(refusal) => print::refused(refusal),
-        Verdict::Passed => print::event(event),
+        Verdict::Refused(refusal) => print::refused(rt, refusal)?,
+        Verdict::Passed => print::event(rt, event)?,
     }
-    print::end_line();
+    print::end_line(rt)
 }
 
 // event-write OUTLEN COUNTER UPTIME UNIX MILLISECONDS IDENTIFIER DATA
-fn write(call: Call, bytes: &[u8]) {
+fn write(rt: &impl Print, call: Call, bytes: &[u8]) -> io::Result<()> {
     let mut space = [0xA5u8; 1024];
     let out = output(&mut space, call[1]);
     let answer = event_writer::write(call::event(call, bytes), out);
-    print_written(answer);
-    print::last(out);
+    print_written(rt, answer)?;
+    print::last(rt, out)
 }
 
 // event-filter OUTLEN CLASSES SOURCES FILTER
-fn filter(call: Call, log: &[u8]) {
+fn filter(rt: &impl Print, call: Call, log: &[u8]) -> io::Result<()> {
     let mut space = [0xA5u8; 1024];
     let out = output(&mut space, call[1]);
     let answer = event_filter::filter(call::filter(call), log, out);
-    print_written(answer);
-    print::last(out);
+    print_written(rt, answer)?;
+    print::last(rt, out)
 }
 
 // event-report
-fn report(log: &[u8]) {
+fn report(rt: &impl Print, log: &[u8]) -> io::Result<()> {
     let answer = event_report::report(log);
     let counts = answer.counts;
     let verdict = answer.verdict;
     match verdict {
-        Verdict::Refused(refusal) => print::refused(refusal),
-        Verdict::Passed => print::report(counts),
+        Verdict::Refused(refusal) => print::refused(rt, refusal)?,
+        Verdict::Passed => print::report(rt, counts)?,
     }
-    print::end_line();
+    print::end_line(rt)
 }

@@ -1,5 +1,6 @@
 // A script in a buffer: the bytes that are not yet taken lie at its start.
 use crate::line::LONGEST_LINE;
+use std::io::Read;
 
 // A line at the start of the buffer.
 #[derive(Clone, Copy)]
@@ -14,13 +15,11 @@ pub struct Line {
 }
 
 // Drops a line, and reads on up to the end of the next.
-pub(crate) fn next_line(script: i32, buffer: &mut [u8], before: Line) -> Line {
+pub(crate) fn next_line(script: &mut impl Read, buffer: &mut [u8], before: Line) -> Line {
     let mut have = drop_line(buffer, before.length, before.have);
     let mut beyond = false;
     // The count only bounds the loop, beyond any input.
-    let mut turns: u64 = 0;
-    while turns < 0x7FFF_FFFF_FFFF_FFFF {
-        turns += 1;
+    for _ in 0..0x7FFF_FFFF_FFFF_FFFFu64 {
         let length = line_end(front(buffer, have));
         if length < have {
             return Line {
@@ -95,11 +94,9 @@ fn drop_line(buffer: &mut [u8], end: usize, have: usize) -> usize {
 }
 
 // Reads on after the bytes that are there. Answers how many there are then: no more at the input's end.
-fn read_on(script: i32, buffer: &mut [u8], have: usize) -> usize {
+fn read_on(script: &mut impl Read, buffer: &mut [u8], have: usize) -> usize {
     if buffer.len() <= have {
         return have;
     }
-    let room: &mut [u8] = &mut buffer[have..];
-    let got = libc::read(script, room);
-    have + io::count(got, room)
+    have + console::read_some(script, &mut buffer[have..])
 }

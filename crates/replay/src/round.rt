@@ -9,22 +9,24 @@ use device::Outcome;
 use message_rules::Verdict;
 use round_rules::{Fate, Round};
 use sender_rules::RequestAnswer;
+use std::io;
+use std::io::Print;
 
 // round WORK FATE
-pub(crate) fn make(call: Call, kept: Kept) -> Kept {
+pub(crate) fn make(rt: &impl Print, call: Call, kept: Kept) -> io::Result<Kept> {
     if !kept.made || !kept.started {
-        print::none_line();
-        return kept;
+        print::none_line(rt)?;
+        return Ok(kept);
     }
     let round = call::round(call);
     let rounded = rounded(round, kept);
     let verdict = rounded.verdict;
     match verdict {
-        Verdict::Refused(refusal) => print::refused(refusal),
-        Verdict::Passed => print_exchange(round, kept),
+        Verdict::Refused(refusal) => print::refused(rt, refusal)?,
+        Verdict::Passed => print_exchange(rt, round, kept)?,
     }
     let next = rounded.kept;
-    over(next)
+    over(rt, next)
 }
 
 // What a round leaves of unit, store and sender.
@@ -52,15 +54,16 @@ fn rounded(round: Round, kept: Kept) -> Step {
 
 // `REQUEST FIRST SECOND` of a round that passed. A round does not hand out its bytes: they are those of the same calls, made on copies of
 // what was kept before it.
-fn print_exchange(round: Round, before: Kept) {
+fn print_exchange(rt: &impl Print, round: Round, before: Kept) -> io::Result<()> {
     let kept = begun(round.worked, before);
     let mut space = [0u8; 1024];
     let length = request_length(asked(kept, &mut space));
     let request = front(&space, length);
-    print::bytes(request);
+    print::bytes(rt, request)?;
     let arrivals = arrivals(round, length);
-    let once = print_answer(arrivals >= 1, request, kept);
-    print_answer(arrivals >= 2, request, once);
+    let once = print_answer(rt, arrivals >= 1, request, kept)?;
+    print_answer(rt, arrivals >= 2, request, once)?;
+    Ok(())
 }
 
 // After the work step, or rest.
@@ -95,16 +98,16 @@ fn arrivals(round: Round, length: usize) -> usize {
 }
 
 // ` ANSWER` of an arrival, and what is kept after it. ` -` where there is none.
-fn print_answer(arrives: bool, request: &[u8], kept: Kept) -> Kept {
+fn print_answer(rt: &impl Print, arrives: bool, request: &[u8], kept: Kept) -> io::Result<Kept> {
     if !arrives {
-        print::text(b" -");
-        return kept;
+        print::text(rt, b" -")?;
+        return Ok(kept);
     }
     let mut space = [0u8; 1024];
     let received = received(kept, request, &mut space);
     let outcome = received.outcome;
-    print::output(front(&space, answer_length(outcome)));
-    received.kept
+    print::output(rt, front(&space, answer_length(outcome)))?;
+    Ok(received.kept)
 }
 
 fn answer_length(outcome: Outcome) -> usize {
@@ -116,8 +119,8 @@ fn answer_length(outcome: Outcome) -> usize {
 }
 
 // ` UNIT SENDER`
-fn over(kept: Kept) -> Kept {
+fn over(rt: &impl Print, kept: Kept) -> io::Result<Kept> {
     let unit = kept.unit;
-    print::unit(unit);
-    answered(kept)
+    print::unit(rt, unit)?;
+    answered(rt, kept)
 }

@@ -4,40 +4,42 @@ use crate::input::{front, output};
 use crate::keep::{Kept, with_sender};
 use crate::{call, print};
 use sender_rules::{RequestAnswer, SenderAnswer};
+use std::io;
+use std::io::Print;
 
-pub(crate) fn make(call: Call, bytes: &[u8], kept: Kept) -> Kept {
+pub(crate) fn make(rt: &impl Print, call: Call, bytes: &[u8], kept: Kept) -> io::Result<Kept> {
     match call[0] {
-        call::FILE => keep(call, bytes, kept),
-        call::SENDER => start(call, kept),
+        call::FILE => keep(rt, call, bytes, kept),
+        call::SENDER => start(rt, call, kept),
         call::REQUEST => {
-            request(call, kept);
-            kept
+            request(rt, call, kept)?;
+            Ok(kept)
         }
-        _ => answer(call, bytes, kept),
+        _ => answer(rt, call, bytes, kept),
     }
 }
 
 // file BYTES
-fn keep(call: Call, bytes: &[u8], kept: Kept) -> Kept {
+fn keep(rt: &impl Print, call: Call, bytes: &[u8], kept: Kept) -> io::Result<Kept> {
     let mut file = [0u8; 4096];
     message_output::put(front(bytes, call[1]), &mut file);
-    print::ok_line();
+    print::ok_line(rt)?;
     let mut next = kept;
     next.file = file;
     next.file_length = call[1];
-    next
+    Ok(next)
 }
 
 // sender LINK SOURCE DESTINATION LENGTH, and a JOB or none
-fn start(call: Call, kept: Kept) -> Kept {
+fn start(rt: &impl Print, call: Call, kept: Kept) -> io::Result<Kept> {
     match started(call) {
         SenderAnswer::Refused(refusal) => {
-            print::refused_line(refusal);
-            kept
+            print::refused_line(rt, refusal)?;
+            Ok(kept)
         }
         SenderAnswer::Sender(next) => {
-            print::ok_line();
-            with_sender(kept, next)
+            print::ok_line(rt)?;
+            Ok(with_sender(kept, next))
         }
     }
 }
@@ -53,16 +55,16 @@ fn started(call: Call) -> SenderAnswer {
 }
 
 // request OUTLEN
-fn request(call: Call, kept: Kept) {
+fn request(rt: &impl Print, call: Call, kept: Kept) -> io::Result<()> {
     if !kept.started {
-        print::none_line();
-        return;
+        print::none_line(rt)?;
+        return Ok(());
     }
     let mut space = [0xA5u8; 1024];
     let out = output(&mut space, call[1]);
     let answer = asked(kept, out);
-    print_request(answer);
-    print::last(out);
+    print_request(rt, answer)?;
+    print::last(rt, out)
 }
 
 // The sender's request, with the file as it is kept.
@@ -72,28 +74,28 @@ pub(crate) fn asked(kept: Kept, out: &mut [u8]) -> RequestAnswer {
     sender::request(sender, front(&file, kept.file_length), out)
 }
 
-fn print_request(answer: RequestAnswer) {
+fn print_request(rt: &impl Print, answer: RequestAnswer) -> io::Result<()> {
     match answer {
-        RequestAnswer::Refused(refusal) => print::refused(refusal),
-        RequestAnswer::Nothing => print::text(b"nothing"),
-        RequestAnswer::Request(n) => print::counted(b"request", n),
+        RequestAnswer::Refused(refusal) => print::refused(rt, refusal),
+        RequestAnswer::Nothing => print::text(rt, b"nothing"),
+        RequestAnswer::Request(n) => print::counted(rt, b"request", n),
     }
 }
 
 // answer BYTES
-fn answer(call: Call, bytes: &[u8], kept: Kept) -> Kept {
+fn answer(rt: &impl Print, call: Call, bytes: &[u8], kept: Kept) -> io::Result<Kept> {
     if !kept.started {
-        print::none_line();
-        return kept;
+        print::none_line(rt)?;
+        return Ok(kept);
     }
     match heard(kept, front(bytes, call[1])) {
         SenderAnswer::Refused(refusal) => {
-            print::refused(refusal);
-            answered(kept)
+            print::refused(rt, refusal)?;
+            answered(rt, kept)
         }
         SenderAnswer::Sender(next) => {
-            print::text(b"ok");
-            answered(with_sender(kept, next))
+            print::text(rt, b"ok")?;
+            answered(rt, with_sender(kept, next))
         }
     }
 }
@@ -106,9 +108,9 @@ fn heard(kept: Kept, bytes: &[u8]) -> SenderAnswer {
 }
 
 // ` SENDER` and the line's end.
-pub(crate) fn answered(kept: Kept) -> Kept {
+pub(crate) fn answered(rt: &impl Print, kept: Kept) -> io::Result<Kept> {
     let sender = kept.sender;
-    print::sender(sender);
-    print::end_line();
-    kept
+    print::sender(rt, sender)?;
+    print::end_line(rt)?;
+    Ok(kept)
 }

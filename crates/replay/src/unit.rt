@@ -5,6 +5,8 @@ use crate::keep::{Kept, with_store, with_unit};
 use crate::{call, print};
 use device::{Outcome, UnitAnswer};
 use message_rules::Verdict;
+use std::io;
+use std::io::Print;
 
 // What is kept after bytes have arrived at the unit, and what came of them.
 #[derive(Clone, Copy)]
@@ -20,37 +22,37 @@ pub struct Step {
     pub verdict: Verdict,
 }
 
-pub(crate) fn make(call: Call, bytes: &[u8], kept: Kept) -> Kept {
+pub(crate) fn make(rt: &impl Print, call: Call, bytes: &[u8], kept: Kept) -> io::Result<Kept> {
     if call[0] == call::UNIT {
-        return new(call, kept);
+        return new(rt, call, kept);
     }
     if !kept.made {
-        print::none_line();
-        return kept;
+        print::none_line(rt)?;
+        return Ok(kept);
     }
     let length = lent_store_length(call);
     if length == ABSENT {
-        return use_store(call, bytes, kept);
+        return use_store(rt, call, bytes, kept);
     }
     // A store that is lent to this call alone: the unit's own is as it was after it.
-    let next = use_store(call, bytes, with_store(kept, [0xA5; 4096], length));
+    let next = use_store(rt, call, bytes, with_store(kept, [0xA5; 4096], length))?;
     let own = kept.store;
-    with_store(next, own, kept.store_length)
+    Ok(with_store(next, own, kept.store_length))
 }
 
 // unit LINK OWN STORELEN
-fn new(call: Call, kept: Kept) -> Kept {
+fn new(rt: &impl Print, call: Call, kept: Kept) -> io::Result<Kept> {
     let made = made(call);
     let verdict = made.verdict;
     let unit = made.device;
     match verdict {
         Verdict::Refused(refusal) => {
-            print::refused_line(refusal);
-            kept
+            print::refused_line(rt, refusal)?;
+            Ok(kept)
         }
         Verdict::Passed => {
-            print::ok_line();
-            with_store(with_unit(kept, unit), [0xA5; 4096], call[3])
+            print::ok_line(rt)?;
+            Ok(with_store(with_unit(kept, unit), [0xA5; 4096], call[3]))
         }
     }
 }
@@ -67,29 +69,29 @@ fn lent_store_length(call: Call) -> usize {
     call[1]
 }
 
-fn use_store(call: Call, bytes: &[u8], kept: Kept) -> Kept {
+fn use_store(rt: &impl Print, call: Call, bytes: &[u8], kept: Kept) -> io::Result<Kept> {
     match call[0] {
-        call::RECEIVE => receive(call, bytes, kept),
-        call::WORK => work(kept),
+        call::RECEIVE => receive(rt, call, bytes, kept),
+        call::WORK => work(rt, kept),
         _ => {
             let store = kept.store;
-            print::bytes(front(&store, kept.store_length));
-            print::end_line();
-            kept
+            print::bytes(rt, front(&store, kept.store_length))?;
+            print::end_line(rt)?;
+            Ok(kept)
         }
     }
 }
 
 // receive OUTLEN BYTES
-fn receive(call: Call, bytes: &[u8], kept: Kept) -> Kept {
+fn receive(rt: &impl Print, call: Call, bytes: &[u8], kept: Kept) -> io::Result<Kept> {
     let mut space = [0xA5u8; 1024];
     let out = output(&mut space, call[1]);
     let received = received(kept, front(bytes, call[2]), out);
     let outcome = received.outcome;
-    print_outcome(outcome);
-    print::output(out);
+    print_outcome(rt, outcome)?;
+    print::output(rt, out)?;
     let next = received.kept;
-    shown(next)
+    shown(rt, next)
 }
 
 // The unit's receive call, with the store as it is kept.
@@ -105,23 +107,23 @@ pub(crate) fn received(kept: Kept, bytes: &[u8], out: &mut [u8]) -> Arrival {
     }
 }
 
-fn print_outcome(outcome: Outcome) {
+fn print_outcome(rt: &impl Print, outcome: Outcome) -> io::Result<()> {
     match outcome {
-        Outcome::Answer(n) => print::counted(b"answer", n),
-        Outcome::Silent => print::text(b"silent"),
-        Outcome::Refused(refusal) => print::refused(refusal),
+        Outcome::Answer(n) => print::counted(rt, b"answer", n),
+        Outcome::Silent => print::text(rt, b"silent"),
+        Outcome::Refused(refusal) => print::refused(rt, refusal),
     }
 }
 
 // work
-fn work(kept: Kept) -> Kept {
+fn work(rt: &impl Print, kept: Kept) -> io::Result<Kept> {
     let unit = kept.unit;
     let step = work_done(kept);
     let verdict = step.verdict;
     let transfer = unit.transfer;
-    print_work(verdict, transfer.pending);
+    print_work(rt, verdict, transfer.pending)?;
     let next = step.kept;
-    shown(next)
+    shown(rt, next)
 }
 
 // The unit's work step, on the store that is kept.
@@ -137,23 +139,23 @@ pub(crate) fn work_done(kept: Kept) -> Step {
     }
 }
 
-fn print_work(verdict: Verdict, pending: bool) {
+fn print_work(rt: &impl Print, verdict: Verdict, pending: bool) -> io::Result<()> {
     match verdict {
-        Verdict::Refused(refusal) => print::refused(refusal),
+        Verdict::Refused(refusal) => print::refused(rt, refusal),
         Verdict::Passed => {
             if pending {
-                print::text(b"stored");
+                print::text(rt, b"stored")
             } else {
-                print::text(b"nothing");
+                print::text(rt, b"nothing")
             }
         }
     }
 }
 
 // ` UNIT` and the line's end.
-fn shown(kept: Kept) -> Kept {
+fn shown(rt: &impl Print, kept: Kept) -> io::Result<Kept> {
     let unit = kept.unit;
-    print::unit(unit);
-    print::end_line();
-    kept
+    print::unit(rt, unit)?;
+    print::end_line(rt)?;
+    Ok(kept)
 }

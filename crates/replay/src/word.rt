@@ -63,7 +63,7 @@ fn most(letter: u8) -> u32 {
 fn place(word: &[u8], from: usize, to: usize) -> Value {
     let mut k = from;
     while k < to {
-        if check::same(word, text_words::word(&NAMES, k)) {
+        if word == text_words::word(&NAMES, k) {
             return Value::Is(k - from);
         }
         k += 1;
@@ -87,7 +87,7 @@ fn eight_bytes(word: &[u8], room: &mut [u8]) -> Value {
 }
 
 fn error(word: &[u8]) -> Value {
-    if check::same(word, b"?") {
+    if word == b"?".as_slice() {
         return Value::Is(NOT_TOLD);
     }
     number(word, 255)

@@ -9,14 +9,14 @@ use lib.Seq.{sets, length-sets, take_all}
 use Rattle.message_rules.specs.Data.{error_number, error_bytes}
 use Rattle.message_rules.specs.Kinds.{error_length}
 use Rattle.message_rules.specs.declared.Message.{Message}
-use Rattle.message_rules.proofs.Stores.{Put, sets-append}
+use Rattle.message_rules.proofs.Stores.{sets-append}
 use Rattle.serial_rules.specs.Stuffing.{doubled}
 use Rattle.serial_rules.specs.Frames.{start_byte, row_of, has_id, has_addresses, id_length, address_length, id_bytes, address_bytes, front_fields, frame_bytes}
 use Rattle.serial_rules.specs.declared.SerialLink.{SerialLink}
 use Rattle.serial_rules.specs.declared.StartRow.{StartRow}
 use Rattle.serial_rules.proofs.Lengths.{frame_parts}
 use Rattle.serial_rules.proofs.Tables.{field-none, field-some}
-use Rattle.serial_writer.proofs.Putting.{put-doubled}
+use Rattle.serial_writer.proofs.Putting.{Puts, put-doubled}
 
 -- The ID by its length: none, or one byte.
 module _ (m : Message) (r : StartRow) (n : ℕ) (row : r ≡ row_of m.kind) (size : n ≡ id_length r) where
@@ -65,14 +65,14 @@ module _ (l : SerialLink) (m : Message) (p : List ℕ) where
 
   -- The start, what was put after it part by part, and the tail.
   pub frame_stored_lem : (out first second left : List ℕ) (i j n : ℕ)
-      → Put (set (set out 0 0x1F) 1 (start_byte l (row_of m.kind))) 2 (doubled fields) i first → Put first i (doubled (error_bytes m)) j second → Put second j (doubled p) n left
+      → Puts (set (set out 0 0x1F) 1 (start_byte l (row_of m.kind))) 2 (doubled fields) i first → Puts first i (doubled (error_bytes m)) j second → Puts second j (doubled p) n left
       → Stored (frame_bytes l m p) out left n
   frame_stored_lem out first second left i j n head error payload =
       let start = set (set out 0 0x1F) 1 (start_byte l (row_of m.kind)) in
       let body = (fields ++ error_bytes m) ++ p in
       let put = put-doubled (fields ++ error_bytes m) p start second left 2 j n (put-doubled fields (error_bytes m) start first second 2 i j head error) payload in
       record {
-        size = rw (frame_parts, put.0, length-append) (omega arith);
-        kept = rw put.1 (length-sets start 2 (doubled body) ∙ simp length-set);
-        whole = rw (frame_parts, add-one, put.0, put.1) (sets-append start 2 (doubled body) (0x1F ∷ 0xFF ∷ []));
+        size = rw (frame_parts, put.value, length-append) (omega arith);
+        kept = rw put.out_after (length-sets start 2 (doubled body) ∙ simp length-set);
+        whole = rw (frame_parts, add-one, put.value, put.out_after) (sets-append start 2 (doubled body) (0x1F ∷ 0xFF ∷ []));
       }

@@ -1,5 +1,6 @@
 // Writing a message as a frame of UART or RS485, by the rules of `serial_rules`.
 #![tactic(auto)]
+
 mod double;
 mod front;
 mod start;

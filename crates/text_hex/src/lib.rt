@@ -1,5 +1,6 @@
 // Byte strings in hexadecimal digits, read and printed by the rules of `text_rules` (`Hex`).
 #![tactic(auto)]
+
 mod reader;
 mod writer;
 

@@ -8,6 +8,7 @@ use text_numbers::digit_value;
 use text_rules::HexAnswer;
 
 // The word `-`.
+#[tactic(auto, unfolding(text_rules::specs::Hex::is_dash))]
 fn is_dash(word: &[u8]) -> bool
     ensures { result ≡ is_dash word.now }
 {
@@ -32,6 +33,7 @@ fn all_digits(word: &[u8]) -> bool
 }
 
 // One byte or more, two digits each.
+#[tactic(auto, unfolding(text_rules::specs::Hex::is_hex))]
 fn is_hex(word: &[u8]) -> bool
     ensures { result ≡ is_hex word.now }
 {

@@ -7,6 +7,7 @@ ghost use Rattle.text_rules.specs.Hex.{hex_digits, printed, converted, if_room, 
 use text_rules::HexAnswer;
 
 // The capital digit of a number.
+#[tactic(auto, unfolding(text_rules::specs::Digits::digit_of))]
 fn digit_of(n: u8) -> u8
     requires { n < 16 }
     ensures { result ≡ digit_of n }

@@ -3,6 +3,7 @@ ghost use Rattle.std.specs.Prelude.{◌≡◌};
 ghost use Rattle.text_rules.specs.Digits.{digit_value};
 
 // The value of a digit; 16 for a byte that is none.
+#[tactic(auto, unfolding(text_rules::specs::Digits::digit_value, text_rules::specs::Digits::from_to))]
 pub fn digit_value(b: u8) -> u8
     ensures { result ≡ digit_value b }
 {

@@ -1,5 +1,6 @@
 // Reading single digits and decimal numbers, by the rules of `text_rules` (`Digits`, `Numbers`).
 #![tactic(auto)]
+
 mod digit;
 mod numbers;
 

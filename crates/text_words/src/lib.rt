@@ -1,5 +1,6 @@
 // The words of a script's line, by the rules of `text_rules` (`Words`).
 #![tactic(auto)]
+
 ghost use Rattle.std.specs.Prelude.{◌≡◌, [], ◌≤◌, length, drop, get_or};
 ghost use Rattle.text_rules.specs.Words.{first_word, words};
 
