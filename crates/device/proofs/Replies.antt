@@ -25,7 +25,11 @@ use Rattle.device_rules.specs.declared.Received.{Received}
 -- What a call owes of a reply: what it tells, the unit and the output.
 abbrev pub Gives : Device → List ℕ → Answer Reply (List ℕ) → Received → List ℕ → Type 0
 Gives d out x r out' =
-    (receive_result r.outcome r.device ≡ counted (within out x)) × ((r.device ≡ after_receive d (within out x)) × (out' ≡ output_after (within out x) out))
+    record {
+      device_value : receive_result r.outcome r.device ≡ counted (within out x);
+      device_value_2 : r.device ≡ after_receive d (within out x);
+      out_after : out' ≡ output_after (within out x) out;
+    }
 
 -- A reply that is equal to one that was given.
 pub equal_gives : (d : Device) (out : List ℕ) (x y : Answer Reply (List ℕ)) (r : Received) (out' : List ℕ) → x ≡ y → Gives d out y r out' → Gives d out x r out'
@@ -33,7 +37,7 @@ equal_gives d out x y r out' e g = rw e g
 
 pub silence_gives : (d next : Device) (out : List ℕ) (x : Answer Reply (List ℕ)) (r : Received) → (r.device ≡ next) × (r.outcome ≡ OutcomeOf.Silent) → x ≡ silence next → Gives d out x r out
 unfolding receive_result after_receive counted output_after
-silence_gives d next out x r says e = rw (e, silence-fits next out, says.0, says.1) (refl, (refl, refl))
+silence_gives d next out x r says e = rw (e, silence-fits next out, says.0, says.1) (record { device_value = refl; device_value_2 = refl; out_after = refl })
 
 pub by_kind : (k k' : Kind) (d : Device) (store : ℕ) (m : Message) (p : List ℕ) → k ≡ k' → kind_reply k d store m p ≡ kind_reply k' d store m p
 by_kind k k' d store m p e = rw e
@@ -65,8 +69,12 @@ module _ (d next : Device) (out out' : List ℕ) where
   module _ (x : Answer Unit (List ℕ)) (left : out' ≡ output_after (within out x) out) where
     pub answer_gives : (n : ℕ) → write_result (WriteAnswerOf.Length n) ≡ counted (within out x) → Gives d out (about (answers next) x) (record { device = next; outcome = OutcomeOf.Answer n }) out'
     unfolding receive_result write_result
-    answer_gives n says = rw (within-about (answers next) out x) (answer-counted n (within out x) says left)
+    answer_gives n says =
+        let g = answer-counted n (within out x) says left in
+        rw (within-about (answers next) out x) (record { device_value = g.0; device_value_2 = g.1.0; out_after = g.1.1 })
 
     pub refusal_gives : (r : Refusal) → write_result (WriteAnswerOf.Refused r) ≡ counted (within out x) → Gives d out (about (answers next) x) (record { device = d; outcome = OutcomeOf.Refused r }) out'
     unfolding receive_result write_result
-    refusal_gives r says = rw (within-about (answers next) out x) (refusal-counted (refusal_number r) (within out x) says left)
+    refusal_gives r says =
+        let g = refusal-counted (refusal_number r) (within out x) says left in
+        rw (within-about (answers next) out x) (record { device_value = g.0; device_value_2 = g.1.0; out_after = g.1.1 })

@@ -76,6 +76,7 @@ fn message_reply(
 }
 
 // The unit after a broadcast: a telecommand is carried out, unless it has a fault, and everything else is passed over.
+#[tactic(auto, unfolding(device_rules::specs::Receive::after_broadcast))]
 fn after_broadcast(device: Device, store: usize, message: Message, payload: &[u8]) -> Device
     ensures { result ≡ after_broadcast device store message payload.now }
 {

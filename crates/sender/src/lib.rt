@@ -4,6 +4,7 @@
 // The rules are the definitions that demand 3 is proved of: `specs/Sender.antt` and `specs/Hearing.antt` of the crate `sender_rules`, where the
 // types stand too.
 #![tactic(auto)]
+
 mod checks;
 mod hearer;
 mod requester;

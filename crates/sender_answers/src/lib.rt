@@ -1,5 +1,6 @@
 // What an answer means to the sender at its stage (document 01, "The sender and its rounds").
 #![tactic(auto)]
+
 mod info;
 
 ghost use Rattle.std.specs.Prelude.{cond, ◌≡◌};
