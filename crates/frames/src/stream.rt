@@ -2,7 +2,7 @@
 //
 // No contract can say what is read or written. What lies between is `listed`: the listing of the bytes that were read, whole.
 ghost use Rattle.std.specs.Prelude.{◌≤◌, ◌≡◌, length, take};
-ghost use Rattle.io.specs.Counts.{IsPrefixLen};
+ghost use Rattle.std.specs.Counts.{IsPrefixLen};
 ghost use Rattle.listing_rules.specs.Listing.{listing, longest};
 
 use message_rules::WriteAnswer;

@@ -1,5 +1,6 @@
 // The listing of a UART stream, as text. The rules are `listing_rules`'s.
 #![tactic(auto)]
+
 mod line;
 mod put;
 mod walk;
