@@ -3,6 +3,7 @@
 //
 // What a round comes to is `round_made` and `round_refusal` of `specs/Rounds.antt` in `round_rules`, over the calls that demand 3 is proved of.
 #![tactic(auto)]
+
 mod exchange;
 
 ghost use Rattle.std.specs.Prelude.{◌≡◌};

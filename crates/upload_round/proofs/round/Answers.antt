@@ -1,5 +1,4 @@
 -- Carried by the work step, done or not, in front of the request.
-use borrow.Author.Rules.{rules}
 use borrow.Author.Tests.{not-true, not-false}
 use mathlib.Core.Path.{refl}
 use Rattle.round_rules.specs.Rounds.{round_made, round_refusal}

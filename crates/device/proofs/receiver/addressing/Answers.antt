@@ -1,7 +1,6 @@
 -- Carried by the link, and on RS485 by the destination.
 use borrow.Author.Tests.{eq-eqb, ne_eqb}
 use Rattle.device_rules.specs.Receive.{addressing}
-use borrow.Author.Rules.{rules}
 use Rattle.device.proofs.receiver.addressing.Goals as goal
 
 pub returns-then-message-eq0 : goal.returns-then-message-eq0

@@ -1,6 +1,5 @@
 -- Carried by the link.
 use Rattle.device_rules.specs.Receive.{answer_source}
-use borrow.Author.Rules.{rules}
 use Rattle.device.proofs.receiver.answer_source.Goals as goal
 
 pub returns-in-Uart : goal.returns-in-Uart

@@ -1,6 +1,5 @@
 -- Carried by the fields, one by one.
 use Rattle.device_rules.specs.Receive.{answer_to}
-use borrow.Author.Rules.{rules}
 use Rattle.device.proofs.receiver.answer_to.Goals as goal
 
 pub returns : goal.returns

@@ -1,6 +1,5 @@
 -- Carried by the fault, or that there is none.
 use Rattle.device_rules.specs.Receive.{command_answer}
-use borrow.Author.Rules.{rules}
 use Rattle.device.proofs.receiver.command_answer.Goals as goal
 
 pub returns-in-None : goal.returns-in-None

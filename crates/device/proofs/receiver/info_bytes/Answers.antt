@@ -5,7 +5,6 @@ use lib.Seq.{length-take-le}
 use Rattle.little_endian_rules.specs.LittleEndian.{to_bytes}
 use Rattle.device_rules.specs.Receive.{info_bytes}
 use Rattle.device_rules.proofs.Buffers.{frame-within, frame-most, frame_of_buffer}
-use borrow.Author.Rules.{rules}
 use Rattle.device.proofs.receiver.info_bytes.Goals as goal
 
 pub overflow_cast-length : goal.overflow_cast-length

@@ -1,7 +1,6 @@
 -- Carried by the kind.
 use Rattle.device_rules.specs.Receive.{kind_reply}
 use Rattle.device.proofs.Replies.{equal_gives, silence_gives, by_kind}
-use borrow.Author.Rules.{rules}
 use Rattle.device.proofs.receiver.kind_reply.Goals as goal
 
 pub returns-in-Telecommand : goal.returns-in-Telecommand

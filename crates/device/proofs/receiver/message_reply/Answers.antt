@@ -2,7 +2,6 @@
 use mathlib.Core.Path.{sym, ap, ◌∙◌}
 use Rattle.device_rules.specs.Receive.{silence, addressed_reply, message_reply}
 use Rattle.device.proofs.Replies.{equal_gives, silence_gives, by-addressing}
-use borrow.Author.Rules.{rules}
 use Rattle.device.proofs.receiver.message_reply.Goals as goal
 
 pub returns-in-Own : goal.returns-in-Own

@@ -4,7 +4,6 @@ use lib.Seq.{length-take-le}
 use Rattle.link_rules.proofs.Reading.{unreadable, readable}
 use Rattle.device_rules.proofs.Receive.{unreadable_silent, message-replied}
 use Rattle.device.proofs.Replies.{equal_gives, silence_gives}
-use borrow.Author.Rules.{rules}
 use Rattle.device.proofs.receiver.receive.Goals as goal
 
 pub returns-in_default : goal.returns-in_default

@@ -1,6 +1,5 @@
 -- Carried by what the writer answers, in each of its cases.
 use Rattle.device.proofs.Replies.{answer_gives, refusal_gives}
-use borrow.Author.Rules.{rules}
 use Rattle.device.proofs.receiver.send.Goals as goal
 
 pub returns-in-Length : goal.returns-in-Length

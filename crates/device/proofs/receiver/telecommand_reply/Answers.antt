@@ -1,7 +1,6 @@
 -- Carried by the answer to the command's fault and by what the writer says of it: written, the unit is as the command leaves it; refused, as it came.
 use mathlib.Core.Path.{refl}
 use Rattle.device.proofs.Replies.{equal_gives, command_reply_lem, answer_gives, refusal_gives}
-use borrow.Author.Rules.{rules}
 use Rattle.device.proofs.receiver.telecommand_reply.Goals as goal
 
 pub returns-in-Length : goal.returns-in-Length

@@ -3,7 +3,6 @@ use mathlib.Core.Path.{◌≡◌}
 use borrow.Author.Tests.{eq-eqb, ne_eqb}
 use Rattle.message_rules.specs.declared.Kind.TheVariants.{TelemetryResponse, TelemetryNack}
 use Rattle.device_rules.specs.Receive.{answer_to, telemetry_reply}
-use borrow.Author.Rules.{rules}
 use Rattle.device.proofs.receiver.telemetry_reply.Goals as goal
 
 pub returns-then-message-eq150 : goal.returns-then-message-eq150

@@ -1,5 +1,4 @@
 -- Carried by the unit's answer, of which nothing is heard.
-use borrow.Author.Rules.{rules}
 use mathlib.Core.Path.{refl}
 use Rattle.upload_round.proofs.Made.{unheard-arrived}
 use Rattle.upload_round.proofs.exchange.answer_lost.Goals as goal

@@ -1,5 +1,4 @@
 -- Carried by the four fates.
-use borrow.Author.Rules.{rules}
 use Rattle.upload_round.proofs.Made.{none-arrived, delivered-arrived}
 use Rattle.upload_round.proofs.exchange.arrivals.Goals as goal
 

@@ -1,5 +1,4 @@
 -- Carried by the sender's answer call: the next sender, or the one that came beside its refusal.
-use borrow.Author.Rules.{rules}
 use mathlib.Core.Path.{refl}
 use Rattle.message_rules.specs.Answer.{verdict_result}
 use Rattle.sender_rules.specs.Sender.{sender_result}

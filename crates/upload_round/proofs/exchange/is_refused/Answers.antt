@@ -1,5 +1,4 @@
 -- Carried by the outcome.
-use borrow.Author.Rules.{rules}
 use Rattle.upload_round.specs.Ends.{is_refused}
 use Rattle.upload_round.proofs.exchange.is_refused.Goals as goal
 

@@ -1,5 +1,4 @@
 -- Carried by what the sender answers and leaves in the array; one that has ended wrote nothing, and nothing follows.
-use borrow.Author.Rules.{rules}
 use mathlib.Core.Path.{refl, sym}
 use lib.Seq.{length-take-le}
 use Rattle.upload_round.proofs.Made.{requested_ends, requested-ended, requested-stopped}

@@ -1,7 +1,4 @@
 -- Carried by the unit's side of the exchange: what it left is heard, or nothing where it is silent, or it is refused.
-use borrow.Author.Rules.{rules}
-use mathlib.Core.Path.{sym}
-use lib.Seq.{length-take-le}
 use Rattle.upload_round.proofs.exchange.sent.Goals as goal
 
 pub returns-in-Answer : goal.returns-in-Answer

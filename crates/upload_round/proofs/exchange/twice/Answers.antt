@@ -1,5 +1,4 @@
 -- Carried by the first arrival: where it is refused nothing follows, and else the second decides.
-use borrow.Author.Rules.{rules}
 use mathlib.Core.Path.{sym, ◌∙◌}
 use Rattle.upload_round.proofs.Made.{delivered-arrived, twice-arrived, refused-arrived}
 use Rattle.upload_round.proofs.exchange.twice.Goals as goal

@@ -1,5 +1,4 @@
 -- Carried by the outcome.
-use borrow.Author.Rules.{rules}
 use Rattle.upload_round.specs.Ends.{unheard}
 use Rattle.upload_round.proofs.exchange.unheard.Goals as goal
 
