@@ -22,4 +22,4 @@ returns-in-22 c = rw c.in-22.is c.frame_done.ensures
 
 pub returns-in_default : goal.returns-in_default
 unfolding transfer_done
-returns-in_default c = rw (ne_eqb _ _ c.in_default.in_default-own.rest.0.0.1, ne_eqb _ _ c.in_default.in_default-own.rest.0.1, ne_eqb _ _ c.in_default.in_default-own.rest.1) c.no_transfer.ensures
+returns-in_default c = rw (ne_eqb _ _ c.in_default.in_default-own.rest.0.0.1, ne_eqb _ _ c.in_default.in_default-own.rest.0.1, ne_eqb _ _ c.in_default.in_default-own.rest.1) (cc)
