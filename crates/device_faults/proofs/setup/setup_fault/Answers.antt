@@ -38,24 +38,39 @@ returns-then-is_repeat c = rw (sym c.read.ensures ∙ c.in-Setup.is, ← c.is_re
 
 pub returns-then-transfer : goal.returns-then-transfer
 unfolding fault
-returns-then-transfer c = rw (new-left c.args.device c.args.store (sym c.read.ensures ∙ c.in-Setup.is) (sym c.is_repeat.ensures ∙ c.if-is_repeat.false), c.if-transfer.true)
+returns-then-transfer c =
+    let left = new-left c.args.device c.args.store (sym c.read.ensures ∙ c.in-Setup.is) (sym c.is_repeat.ensures ∙ c.if-is_repeat.false) in
+    rw (left, c.if-transfer.true)
 
 pub returns-then-is_open : goal.returns-then-is_open
 unfolding fault
-returns-then-is_open c = rw (new-left c.args.device c.args.store (sym c.read.ensures ∙ c.in-Setup.is) (sym c.is_repeat.ensures ∙ c.if-is_repeat.false), c.if-transfer.false, ← c.is_open.ensures, c.if-is_open.true)
+returns-then-is_open c =
+    let left = new-left c.args.device c.args.store (sym c.read.ensures ∙ c.in-Setup.is) (sym c.is_repeat.ensures ∙ c.if-is_repeat.false) in
+    rw (left, c.if-transfer.false, ← c.is_open.ensures, c.if-is_open.true)
 
 pub returns-then-is_job : goal.returns-then-is_job
 unfolding fault
-returns-then-is_job c = rw (new-left c.args.device c.args.store (sym c.read.ensures ∙ c.in-Setup.is) (sym c.is_repeat.ensures ∙ c.if-is_repeat.false), c.if-transfer.false, ← c.is_open.ensures, c.if-is_open.false, ← c.is_job.ensures, c.if-is_job.true)
+returns-then-is_job c =
+    let left = new-left c.args.device c.args.store (sym c.read.ensures ∙ c.in-Setup.is) (sym c.is_repeat.ensures ∙ c.if-is_repeat.false) in
+    rw (left, c.if-transfer.false, ← c.is_open.ensures, c.if-is_open.false, ← c.is_job.ensures, c.if-is_job.true)
 
 pub returns-then-not-size_legal : goal.returns-then-not-size_legal
 unfolding fault
-returns-then-not-size_legal c = rw (size-left c.args.device c.args.store (sym c.read.ensures ∙ c.in-Setup.is) (sym c.is_repeat.ensures ∙ c.if-is_repeat.false) c.if-transfer.false (sym c.is_open.ensures ∙ c.if-is_open.false) (sym c.is_job.ensures ∙ c.if-is_job.false), ← c.size_legal.ensures, c.if-not-size_legal.true)
+returns-then-not-size_legal c =
+    let left = size-left c.args.device c.args.store (sym c.read.ensures ∙ c.in-Setup.is) (sym c.is_repeat.ensures ∙ c.if-is_repeat.false) c.if-transfer.false
+    (sym c.is_open.ensures ∙ c.if-is_open.false) (sym c.is_job.ensures ∙ c.if-is_job.false) in
+    rw (left, ← c.size_legal.ensures, c.if-not-size_legal.true)
 
 pub returns-then-store-size : goal.returns-then-store-size
 unfolding fault
-returns-then-store-size c = rw (size-left c.args.device c.args.store (sym c.read.ensures ∙ c.in-Setup.is) (sym c.is_repeat.ensures ∙ c.if-is_repeat.false) c.if-transfer.false (sym c.is_open.ensures ∙ c.if-is_open.false) (sym c.is_job.ensures ∙ c.if-is_job.false), ← c.size_legal.ensures, c.if-not-size_legal.false, lt-ltb _ _ c.if-store-size.true)
+returns-then-store-size c =
+    let left = size-left c.args.device c.args.store (sym c.read.ensures ∙ c.in-Setup.is) (sym c.is_repeat.ensures ∙ c.if-is_repeat.false) c.if-transfer.false
+    (sym c.is_open.ensures ∙ c.if-is_open.false) (sym c.is_job.ensures ∙ c.if-is_job.false) in
+    rw (left, ← c.size_legal.ensures, c.if-not-size_legal.false, lt-ltb _ _ c.if-store-size.true)
 
 pub returns : goal.returns
 unfolding fault
-returns c = rw (size-left c.args.device c.args.store (sym c.read.ensures ∙ c.in-Setup.is) (sym c.is_repeat.ensures ∙ c.if-is_repeat.false) c.if-transfer.false (sym c.is_open.ensures ∙ c.if-is_open.false) (sym c.is_job.ensures ∙ c.if-is_job.false), ← c.size_legal.ensures, c.if-not-size_legal.false, le-ltb _ _ c.if-store-size.false)
+returns c =
+    let left = size-left c.args.device c.args.store (sym c.read.ensures ∙ c.in-Setup.is) (sym c.is_repeat.ensures ∙ c.if-is_repeat.false) c.if-transfer.false
+    (sym c.is_open.ensures ∙ c.if-is_open.false) (sym c.is_job.ensures ∙ c.if-is_job.false) in
+    rw (left, ← c.size_legal.ensures, c.if-not-size_legal.false, le-ltb _ _ c.if-store-size.false)

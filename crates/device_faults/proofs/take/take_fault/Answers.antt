@@ -50,15 +50,29 @@ returns-then-is_finished c = rw (eq-eqb _ _ c.if-payload-ne2.false, ← c.is_idl
 
 pub returns-then-is_last_stored : goal.returns-then-is_last_stored
 unfolding fault
-returns-then-is_last_stored c = rw (number_read c.args.transfer c.args.payload.now c.if-payload-ne2.false (sym c.is_idle.ensures ∙ c.if-is_idle.false) c.if-transfer.false (sym c.is_finished.ensures ∙ c.if-is_finished.false) (c.u16_from_bytes-number.ensures ∙ ap from_bytes (two_bytes _ c.if-payload-ne2.false)), ← c.is_last_stored.ensures, c.if-is_last_stored.true)
+returns-then-is_last_stored c =
+    let number = c.u16_from_bytes-number.ensures ∙ ap from_bytes (two_bytes _ c.if-payload-ne2.false) in
+    let still = number_read c.args.transfer c.args.payload.now c.if-payload-ne2.false (sym c.is_idle.ensures ∙ c.if-is_idle.false) c.if-transfer.false
+    (sym c.is_finished.ensures ∙ c.if-is_finished.false) number in
+    rw (still, ← c.is_last_stored.ensures, c.if-is_last_stored.true)
 
 pub returns-then-is_out_of_sequence : goal.returns-then-is_out_of_sequence
 unfolding fault
-returns-then-is_out_of_sequence c = rw (number_read c.args.transfer c.args.payload.now c.if-payload-ne2.false (sym c.is_idle.ensures ∙ c.if-is_idle.false) c.if-transfer.false (sym c.is_finished.ensures ∙ c.if-is_finished.false) (c.u16_from_bytes-number.ensures ∙ ap from_bytes (two_bytes _ c.if-payload-ne2.false)), ← c.is_last_stored.ensures, c.if-is_last_stored.false, ← c.is_out_of_sequence.ensures, c.if-is_out_of_sequence.true)
+returns-then-is_out_of_sequence c =
+    let number = c.u16_from_bytes-number.ensures ∙ ap from_bytes (two_bytes _ c.if-payload-ne2.false) in
+    let still = number_read c.args.transfer c.args.payload.now c.if-payload-ne2.false (sym c.is_idle.ensures ∙ c.if-is_idle.false) c.if-transfer.false
+    (sym c.is_finished.ensures ∙ c.if-is_finished.false) number in
+    rw (still, ← c.is_last_stored.ensures, c.if-is_last_stored.false, ← c.is_out_of_sequence.ensures, c.if-is_out_of_sequence.true)
 
 pub returns-then-length-eq0 : goal.returns-then-length-eq0
 unfolding fault
-returns-then-length-eq0 c = rw (frame-read c.args.transfer c.args.payload.now c.u16_from_bytes-number.result (number_read c.args.transfer c.args.payload.now c.if-payload-ne2.false (sym c.is_idle.ensures ∙ c.if-is_idle.false) c.if-transfer.false (sym c.is_finished.ensures ∙ c.if-is_finished.false) (c.u16_from_bytes-number.ensures ∙ ap from_bytes (two_bytes _ c.if-payload-ne2.false))) (sym c.is_last_stored.ensures ∙ c.if-is_last_stored.false) (sym c.is_out_of_sequence.ensures ∙ c.if-is_out_of_sequence.false) c.buffered_length-length.ensures, eq-eqb _ _ c.if-length-eq0.true)
+returns-then-length-eq0 c =
+    let number = c.u16_from_bytes-number.ensures ∙ ap from_bytes (two_bytes _ c.if-payload-ne2.false) in
+    let still = number_read c.args.transfer c.args.payload.now c.if-payload-ne2.false (sym c.is_idle.ensures ∙ c.if-is_idle.false) c.if-transfer.false
+    (sym c.is_finished.ensures ∙ c.if-is_finished.false) number in
+    let left = frame-read c.args.transfer c.args.payload.now c.u16_from_bytes-number.result still (sym c.is_last_stored.ensures ∙ c.if-is_last_stored.false)
+    (sym c.is_out_of_sequence.ensures ∙ c.if-is_out_of_sequence.false) c.buffered_length-length.ensures in
+    rw (left, eq-eqb _ _ c.if-length-eq0.true)
 
 pub overflow_add-transfer : goal.overflow_add-transfer
 overflow_add-transfer c = omega (arith, c.buffered_length-length.ensures, frame-most c.args.transfer c.well_formed.0)
@@ -68,11 +82,21 @@ unfolding fault
 returns-then-transfer-length c =
     let t = c.args.transfer in
     let above : t.size - t.stored < c.buffered_length-length.result = omega arith in
-    rw (frame-read c.args.transfer c.args.payload.now c.u16_from_bytes-number.result (number_read c.args.transfer c.args.payload.now c.if-payload-ne2.false (sym c.is_idle.ensures ∙ c.if-is_idle.false) c.if-transfer.false (sym c.is_finished.ensures ∙ c.if-is_finished.false) (c.u16_from_bytes-number.ensures ∙ ap from_bytes (two_bytes _ c.if-payload-ne2.false))) (sym c.is_last_stored.ensures ∙ c.if-is_last_stored.false) (sym c.is_out_of_sequence.ensures ∙ c.if-is_out_of_sequence.false) c.buffered_length-length.ensures, ne_eqb _ _ c.if-length-eq0.false, lt-ltb _ _ above)
+    let number = c.u16_from_bytes-number.ensures ∙ ap from_bytes (two_bytes _ c.if-payload-ne2.false) in
+    let still = number_read c.args.transfer c.args.payload.now c.if-payload-ne2.false (sym c.is_idle.ensures ∙ c.if-is_idle.false) c.if-transfer.false
+    (sym c.is_finished.ensures ∙ c.if-is_finished.false) number in
+    let left = frame-read c.args.transfer c.args.payload.now c.u16_from_bytes-number.result still (sym c.is_last_stored.ensures ∙ c.if-is_last_stored.false)
+    (sym c.is_out_of_sequence.ensures ∙ c.if-is_out_of_sequence.false) c.buffered_length-length.ensures in
+    rw (left, ne_eqb _ _ c.if-length-eq0.false, lt-ltb _ _ above)
 
 pub returns : goal.returns
 unfolding fault
 returns c =
     let t = c.args.transfer in
     let room : c.buffered_length-length.result ≤ t.size - t.stored = omega arith in
-    rw (frame-read c.args.transfer c.args.payload.now c.u16_from_bytes-number.result (number_read c.args.transfer c.args.payload.now c.if-payload-ne2.false (sym c.is_idle.ensures ∙ c.if-is_idle.false) c.if-transfer.false (sym c.is_finished.ensures ∙ c.if-is_finished.false) (c.u16_from_bytes-number.ensures ∙ ap from_bytes (two_bytes _ c.if-payload-ne2.false))) (sym c.is_last_stored.ensures ∙ c.if-is_last_stored.false) (sym c.is_out_of_sequence.ensures ∙ c.if-is_out_of_sequence.false) c.buffered_length-length.ensures, ne_eqb _ _ c.if-length-eq0.false, le-ltb _ _ room)
+    let number = c.u16_from_bytes-number.ensures ∙ ap from_bytes (two_bytes _ c.if-payload-ne2.false) in
+    let still = number_read c.args.transfer c.args.payload.now c.if-payload-ne2.false (sym c.is_idle.ensures ∙ c.if-is_idle.false) c.if-transfer.false
+    (sym c.is_finished.ensures ∙ c.if-is_finished.false) number in
+    let left = frame-read c.args.transfer c.args.payload.now c.u16_from_bytes-number.result still (sym c.is_last_stored.ensures ∙ c.if-is_last_stored.false)
+    (sym c.is_out_of_sequence.ensures ∙ c.if-is_out_of_sequence.false) c.buffered_length-length.ensures in
+    rw (left, ne_eqb _ _ c.if-length-eq0.false, le-ltb _ _ room)
