@@ -46,10 +46,8 @@ fn append(
         return Ok(length);
     }
     let mut end = length;
-    let mut left = times;
-    while 0 < left {
+    for _ in 0..times {
         end = append_once(bytes, log, end);
-        left -= 1;
     }
     print::ok_line(rt)?;
     Ok(end)

@@ -49,14 +49,12 @@ pub(crate) fn next_line(script: &mut impl Read, buffer: &mut [u8], before: Line)
 
 // Where the first line ends: at its LF, or at the end of what there is.
 fn line_end(bytes: &[u8]) -> usize {
-    let mut i = 0;
-    while i < bytes.len() {
+    for i in 0..bytes.len() {
         if bytes[i] == b'\n' {
             return i;
         }
-        i += 1;
     }
-    i
+    bytes.len()
 }
 
 // The first n bytes, or all where there are fewer.
@@ -84,11 +82,9 @@ fn drop_line(buffer: &mut [u8], end: usize, have: usize) -> usize {
         return 0;
     }
     let mut to = 0;
-    let mut from = end + 1;
-    while from < have {
+    for from in end + 1..have {
         buffer[to] = buffer[from];
         to += 1;
-        from += 1;
     }
     to
 }

@@ -40,13 +40,9 @@ fn shaped(line: &[u8], shape: &[u8], bytes: &mut [u8]) -> Call {
         return [BAD; 10];
     }
     let mut call = [ABSENT; 10];
-    let mut k = 0;
-    while k < count {
+    for k in 0..count {
         match value_of(letter(shape, k), text_words::word(line, k), bytes) {
-            Value::Is(n) => {
-                set(&mut call, k, n);
-                k += 1;
-            }
+            Value::Is(n) => set(&mut call, k, n),
             Value::Bad => return [BAD; 10],
         }
     }

@@ -61,12 +61,10 @@ fn most(letter: u8) -> u32 {
 
 // Which of the names from one place up to another this is, counted from the first of them.
 fn place(word: &[u8], from: usize, to: usize) -> Value {
-    let mut k = from;
-    while k < to {
+    for k in from..to {
         if word == text_words::word(&NAMES, k) {
             return Value::Is(k - from);
         }
-        k += 1;
     }
     Value::Bad
 }
