@@ -28,12 +28,10 @@ fn read_file(file: &mut impl Read, room: &mut [u8]) -> Input {
 
 // One or more decimal digits, and nothing else.
 pub(crate) fn is_number(word: &[u8]) -> bool {
-    let mut i = 0;
-    while i < word.len() {
+    for i in 0..word.len() {
         if word[i] < b'0' || b'9' < word[i] {
             return false;
         }
-        i += 1;
     }
     word.len() > 0
 }

@@ -11,10 +11,8 @@ pub(crate) fn space() -> [u8; SPACE]
 }
 
 pub(crate) fn fill(file: &mut [u8]) {
-    let mut i = 0;
-    while i < file.len() {
+    for i in 0..file.len() {
         file[i] = byte_at(i);
-        i += 1;
     }
 }
 
@@ -29,10 +27,8 @@ fn byte_at(i: usize) -> u8 {
 
 // What no upload stored.
 pub(crate) fn clear(store: &mut [u8]) {
-    let mut i = 0;
-    while i < store.len() {
+    for i in 0..store.len() {
         store[i] = 0xA5;
-        i += 1;
     }
 }
 
