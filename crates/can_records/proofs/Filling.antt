@@ -1,62 +1,76 @@
--- What a plan decides, in records, and the lent list once they are filled. Carried by the laws of records and by the plan's own.
-use Prim.Native.Nat.{ℕ, ◌+◌, ◌/◌, ◌≤◌}
-use mathlib.Core.Bool.{Bool, true, false}
-use mathlib.Core.List.{List, [], ◌++◌}
-use mathlib.Core.Path.{◌≡◌, refl, ap}
+-- The 13-byte form in an array as long as the longest series, and the lent list while it is filled with its records. Carried by the bound of what
+-- CAN writes, and by the laws of records.
+use Prim.Native.Nat.{ℕ, ◌+◌, ◌*◌, ◌/◌, ◌≤◌, ◌<◌}
+use mathlib.Core.List.{List, ◌++◌}
+use mathlib.Core.Path.{◌≡◌, refl, sym, ◌∙◌, ap}
 use native.Mathlib.Omega.{arith}
-use borrow.Author.Tests.{leb-true}
-use lib.Dec.{leb}
-use lib.ListN.{length, drop, replicate}
-use Rattle.message_rules.specs.Answer.{Answer, refused, given, counted, output_after, write_result}
+use borrow.Author.Tests.{le-leb}
+use lib.ListN.{length, set, take, drop, replicate, length-append, length-drop}
+use lib.Seq.{length-take-le, take_at, drop_at, drop-drop}
+use Rattle.message_rules.specs.Answer.{Answer, refused, given, within, counted, output_after}
 use Rattle.message_rules.specs.declared.Message.{Message}
-use Rattle.can_rules.specs.Can.{most_later, longest_series, can_write}
+use Rattle.message_rules.proofs.Answers.{long_enough, counted-given}
+use Rattle.can_rules.specs.Can.{longest_series, can_write}
 use Rattle.can_rules.specs.declared.CanFrame.{CanFrame}
-use Rattle.can_rules.specs.Records.{records_of, in_records, records_write, fitting, records_counted, filled}
-use Rattle.can_rules.proofs.Records.{records_local, records-length, filled_to}
-use Rattle.can_records.specs.Plan.{Planned, in_frames, to_fill}
-use Rattle.can_records.specs.declared.plan.Plan.{Plan}
+use Rattle.can_rules.specs.Records.{record_of, records_of, in_records, records_write, fitting}
+use Rattle.can_rules.proofs.Lengths.{written-most}
+use Rattle.can_rules.proofs.Records.{record_front, filled_to, filled_turn, records-length, too_few}
 
--- What a call has decided, in records: what is answered, and what is filled, which is within the lent list and within the longest series.
-abbrev records_to_fill : Answer Unit (List CanFrame) → List CanFrame
-records_to_fill (refused n) = []
-records_to_fill (given a r) = r
+module _ (m : Message) (p : List ℕ) where
+  -- The array never refuses.
+  pub form_fits : within (replicate longest_series 0) (can_write m p) ≡ can_write m p
+  unfolding within
+  form_fits = by (can_write m p) refl
+    where
+      by : (x : Answer Unit (List ℕ)) → can_write m p ≡ x → within (replicate longest_series 0) x ≡ x
+      by (refused n) e = refl
+      by (given t b) e = long_enough (replicate longest_series 0) tt b (written-most m p b e)
 
-pub record Decided (a : Answer Unit (List CanFrame)) (room : ℕ) (p : Plan) : Type 0 where
-  pub says : write_result p.answer ≡ records_counted a
-  pub records : records_of p.count p.bytes ≡ records_to_fill a
-  pub inside : p.count ≤ room
-  pub most : p.count ≤ most_later + 1
+  pub form_refused : (n : ℕ) → can_write m p ≡ refused n → records_write m p ≡ refused n
+  unfolding records_write in_records
+  form_refused n e = rw e
 
--- So says the plan, which speaks of the 13-byte form.
-in_decided : (form : Answer Unit (List ℕ)) (room : ℕ) (p : Plan) → Planned form room p → Decided (fitting room (in_records form)) room p
-unfolding in_records fitting records_counted in_frames to_fill counted output_after records_of
-in_decided (refused n) room p e = record { says = e.says; records = rw e.count refl; inside = rw e.count (omega arith); most = e.most }
-in_decided (given t b) room p e = by (leb (length b / 13) room) refl
-  where
-    by : (y : Bool) → leb (length b / 13) room ≡ y → Decided (fitting room (given t (records_of (length b / 13) b))) room p
-    by true q =
-        let count : p.count ≡ length b / 13 = rw q at e.count in
-        rw (records-length (length b / 13) b, q) (record {
-          says = rw (records-length (length b / 13) b) (rw q at e.says);
-          records = rw (count, e.bytes) (records_local (length b / 13) b (drop (length b) (replicate longest_series 0)) (omega arith));
-          inside = rw count (leb-true _ _ q);
-          most = e.most;
-        })
-    by false q =
-        let count : p.count ≡ 0 = rw q at e.count in
-        rw (records-length (length b / 13) b, q) (record { says = rw q at e.says; records = rw count refl; inside = rw count (omega arith); most = e.most })
+  -- What was written lies at the start of the array.
+  module _ (size : ℕ) (bytes : List ℕ) (says : given tt size ≡ counted (within (replicate longest_series 0) (can_write m p)))
+      (lies : bytes ≡ output_after (within (replicate longest_series 0) (can_write m p)) (replicate longest_series 0)) where
+    pub form_given : (can_write m p ≡ given tt (take size bytes)) × (size ≤ length bytes)
+    form_given =
+        let g = counted-given (within (replicate longest_series 0) (can_write m p)) (replicate longest_series 0) bytes lies tt size (sym says) in
+        (sym form_fits ∙ g.0, g.1)
 
-pub decided : (m : Message) (p : List ℕ) (room : ℕ) (plan : Plan) → Planned (can_write m p) room plan → Decided (fitting room (records_write m p)) room plan
-unfolding records_write
-decided m p room plan e = in_decided (can_write m p) room plan e
+    records : records_write m p ≡ given tt (records_of (size / 13) (take size bytes))
+    unfolding records_write in_records
+    records = rw (form_given.0, length-take-le size bytes form_given.1)
 
--- Once all are filled the list is what the rule says.
-filled-by : (a : Answer Unit (List CanFrame)) (xs : List CanFrame) → records_to_fill a ++ drop (length (records_to_fill a)) xs ≡ filled a xs
-unfolding filled
-filled-by (refused n) xs = refl
-filled-by (given t r) xs = refl
+    pub few_records : (room : ℕ) → room < size / 13 → fitting room (records_write m p) ≡ refused 8
+    few_records room h = rw records (too_few tt (records_of (size / 13) (take size bytes)) room (rw records-length h))
 
-pub filled-end : (b : List ℕ) (xs : List CanFrame) (a : Answer Unit (List CanFrame)) (n : ℕ) → records_of n b ≡ records_to_fill a → filled_to b xs n ≡ filled a xs
-filled-end b xs a n e =
-    let size : n ≡ length (records_to_fill a) = cc (records-length n b, ap length e) in
-    rw (e, size) (filled-by a xs)
+    pub enough_records : (room : ℕ) → size / 13 ≤ room → fitting room (records_write m p) ≡ given tt (records_of (size / 13) (take size bytes))
+    unfolding fitting
+    enough_records room h = rw (records, records-length (size / 13) (take size bytes), le-leb (size / 13) room h)
+
+-- Before the record i: so many are filled, and the frames left are those from it on.
+pub record Going (b : List ℕ) (frames₀ frames : List CanFrame) (left : List ℕ) (i : ℕ) : Type 0 where
+  pub rest : left ≡ drop (13 * i) b
+  pub inside : 13 * i ≤ length b
+  pub filled : frames ≡ filled_to b frames₀ i
+
+module _ (b : List ℕ) (frames₀ frames : List CanFrame) (f others : List ℕ) (i : ℕ) (going : Going b frames₀ frames (f ++ others) i) (long : length f ≡ 13) where
+  pub going_inside : i < length b / 13
+  going_inside = omega (arith, ap length going.rest, length-append f others, length-drop (13 * i) b)
+
+  pub going_more : i < length frames₀ → (r : CanFrame) → r ≡ record_of f → Going b frames₀ (set frames i r) others (i + 1)
+  going_more h r e =
+      let next : 13 * i + 13 ≡ 13 * (i + 1) = omega arith in
+      let whole : record_of (f ++ others) ≡ record_of f = record_front (f ++ others) (rw length-append (omega arith)) ∙ ap record_of (take_at f others 13 long) in
+      record {
+        rest = rw next at (sym (drop_at f others 13 long) ∙ ap (drop 13) going.rest ∙ drop-drop 13 (13 * i) b);
+        inside = omega (arith, going_inside);
+        filled = rw going.filled (filled_turn b frames₀ i r h (e ∙ sym whole ∙ ap record_of going.rest));
+      }
+
+pub going_end : (b s : List ℕ) (n : ℕ) (frames₀ frames : List CanFrame) (left : List ℕ) (i : ℕ) → Going b frames₀ frames left i → length left < 13 → b ≡ s → length s ≡ n
+    → frames ≡ records_of (n / 13) s ++ drop (n / 13) frames₀
+going_end b s n frames₀ frames left i g h whole size =
+    let all : i ≡ n / 13 = omega (arith, ap length g.rest, length-drop (13 * i) b, g.inside, ap length whole, size) in
+    rw (← all, ← whole) g.filled

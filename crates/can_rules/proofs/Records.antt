@@ -7,7 +7,7 @@ use mathlib.Core.Path.{◌≡◌, refl, sym, ◌∙◌, ap}
 use native.Mathlib.Numerals.{add-one}
 use native.Mathlib.Omega.{arith}
 use borrow.Author.Tests.{lt-leb}
-use lib.ListN.{length, get_or, set, take, drop, get_or-append, length-append, length-drop, take-append-drop}
+use lib.ListN.{length, get_or, set, take, drop, get_or-append, length-drop, take-append-drop}
 use lib.Seq.{take-append-le, drop-append-le, drop-cons, drop-drop, set_at, append_snoc, length-take-le, drop_at}
 use Rattle.little_endian_rules.specs.LittleEndian.{from_bytes}
 use Rattle.message_rules.specs.Answer.{refused, given}
@@ -69,13 +69,10 @@ records-more (suc i) b =
     let more : suc i + 1 ≡ suc (i + 1) = omega arith in
     rw (more, records-more i (drop 13 b), drop-drop, next)
 
--- A list whose first i records are filled: its length stays, and one more is filled at place i.
+-- A list whose first i records are filled: one more is filled at place i.
 module _ (b : List ℕ) (xs : List CanFrame) where
   abbrev pub filled_to : ℕ → List CanFrame
   filled_to i = records_of i b ++ drop i xs
-
-  pub filled-length : (i : ℕ) → i ≤ length xs → length (filled_to i) ≡ length xs
-  filled-length i h = simp (length-append, records-length, length-drop) (omega arith)
 
   pub filled_turn : (i : ℕ) (r : CanFrame) → i < length xs → r ≡ record_of (drop (13 * i) b) → set (filled_to i) i r ≡ filled_to (i + 1)
   filled_turn i r h e =

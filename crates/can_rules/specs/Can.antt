@@ -1,15 +1,11 @@
 -- CAN (document 01, "CAN and CSP" and "Refusal numbers"): frames of 13 bytes, single or in a series.
-use Rattle.std.specs.Prelude.{ℕ, zero, suc, ◌+◌, ◌-◌, ◌*◌, ◌/◌, Bool, true, false, cond, ◌&&◌, ◌||◌, List, [], ◌∷◌, ◌++◌, leb, ltb, eqb, length, get_or, take, drop, replicate}
+use Rattle.std.specs.Prelude.{ℕ, zero, suc, ◌+◌, ◌-◌, ◌*◌, ◌/◌, Bool, true, false, cond, ◌&&◌, ◌||◌, List, [], ◌∷◌, ◌++◌, leb, ltb, eqb, length, get_or, take, drop, replicate, None, Option, Some}
 use Rattle.message_rules.specs.Answer.{Answer, Check, refused, given, passed, require, after, written}
 use Rattle.message_rules.specs.Checks.{id_legal, payload_legal, write_checks}
 use Rattle.message_rules.specs.Kinds.{is_event, is_nack, type_number, type_kind}
 use Rattle.message_rules.specs.declared.Carries.{Carries}
-use Rattle.message_rules.specs.declared.ErrorByte.{ErrorByte}
-use Rattle.message_rules.specs.declared.ErrorByte.TheVariants.{Told, NotTold}
 use Rattle.message_rules.specs.declared.Kind.{Kind}
 use Rattle.message_rules.specs.declared.Kind.TheVariants.{Telecommand, TelemetryResponse, Event}
-use Rattle.message_rules.specs.declared.KindLookup.{KindLookup}
-use Rattle.message_rules.specs.declared.KindLookup.TheVariants.{Known, Unknown}
 use Rattle.message_rules.specs.declared.Message.{Message}
 
 -- "A CAN frame is kept as 13 bytes: identifier (4), DLC, eight data bytes": the bytes of a frame, and of its data.
@@ -42,9 +38,9 @@ series_type t = cond (eqb t 1) 7 (cond (eqb t 5) 8 t)
 unfoldable pub series_kind : ℕ → Kind
 series_kind t = cond (eqb t 7) Telecommand (cond (eqb t 8) TelemetryResponse Event)
 
-unfoldable pub kind_or : Kind → KindLookup → Kind
-kind_or k (Known single) = single
-kind_or k Unknown = k
+unfoldable pub kind_or : Kind → Option Kind → Kind
+kind_or k (Some single) = single
+kind_or k None = k
 
 unfoldable pub kind_of_type : ℕ → Kind
 kind_of_type t = kind_or (series_kind t) (type_kind t)
@@ -167,8 +163,8 @@ all_frames b =
     (given (drop frame_size b) (take (dlc b) (data_field b))))
 
 -- "A CAN nack has no error byte: it reads as 'not told' with index 0."
-unfoldable pub can_error : Kind → ErrorByte
-can_error k = cond (is_nack k) NotTold (Told 0)
+unfoldable pub can_error : Kind → Option ℕ
+can_error k = cond (is_nack k) None (Some 0)
 
 -- The message that the first frame's identifier tells; what CAN does not carry reads as 0.
 unfoldable pub can_message : List ℕ → Message

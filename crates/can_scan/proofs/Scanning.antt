@@ -1,66 +1,20 @@
 -- The laws of the scan: what the checks of a frame come to, and what the frames from a place on add to those before it. Carried by the
 -- definitions, which compute once a frame's length and checks are known, so that a count in front of a count adds up.
-use Prim.Native.Nat.{ℕ, zero, suc, ◌+◌, ◌-◌, ◌≤◌, ◌<◌}
-use mathlib.Core.Bool.{Bool, true, false, ◌&&◌}
-use mathlib.Core.List.{List, [], ◌∷◌}
-use mathlib.Core.Path.{◌≡◌, refl, ap, sym, ◌∙◌}
-use native.Mathlib.Nat.{add-zero, add-sub_cancel_left}
-use native.Mathlib.Numerals.{add-one}
+use Prim.Native.Nat.{ℕ, suc, ◌+◌, ◌-◌, ◌≤◌, ◌<◌}
+use mathlib.Core.Bool.{true}
+use mathlib.Core.List.{List, []}
+use mathlib.Core.Path.{◌≡◌, refl, ap, ◌∙◌}
+use native.Mathlib.Nat.{add-zero}
 use native.Mathlib.Omega.{arith}
-use borrow.Author.Tests.{le-leb, lt-leb, ne_eqb}
-use lib.Dec.{eqb}
-use lib.ListN.{length, get_or, take, drop, drop_of_length-le, length-append, length-drop}
-use lib.Seq.{drop-cons, get_or-drop, get_or-take, drop-drop, length-take-le}
-use Rattle.message_rules.specs.Answer.{Answer, refused, given, passed, failed, require, after, counted, verdict_result}
-use Rattle.message_rules.specs.declared.Verdict.{Verdict}
-use Rattle.message_rules.specs.declared.Verdict.TheVariants.{Passed}
+use borrow.Author.Tests.{le-leb, lt-leb}
+use lib.ListN.{length, get_or, take, drop, length-append, length-drop}
+use lib.Seq.{get_or-drop, get_or-take, length-take-le}
+use Rattle.message_rules.specs.Answer.{Answer, refused, given, passed, failed, require, after, counted}
 use Rattle.message_rules.proofs.Answers.{counted-refused}
 use Rattle.message_rules.proofs.Checks.{require-passed}
-use Rattle.can_rules.specs.Can.{type_legal, zeros, first_fits, first_checks, later_fits, later_checks, same_bytes, prepend, later_frames, all_frames}
+use Rattle.can_rules.specs.Can.{type_legal, first_fits, first_checks, later_fits, later_checks, prepend, later_frames, all_frames}
 use Rattle.can_rules.proofs.Series.{later-dlc, first-dlc, first_count}
 use Rattle.can_scan.specs.Measured.{measured}
-use Rattle.can_scan.proofs.Checks.{first_checks-at}
-
--- One step of the test of the bytes past the DLC.
-module _ (b : List ℕ) (at : ℕ) where
-  pub zeros-step : at < length b → get_or b at 0 ≡ 0 → zeros (drop at b) ≡ zeros (drop (at + 1) b)
-  unfolding zeros
-  zeros-step h e = rw (add-one, drop-cons b at 0 h, e)
-
-  pub zeros-stop : at < length b → (get_or b at 0 ≡ 0 → ⊥) → zeros (drop at b) ≡ false
-  unfolding zeros
-  zeros-stop h n = rw (drop-cons b at 0 h, ne_eqb _ _ n)
-
-  pub zeros-end : length b ≤ at → zeros (drop at b) ≡ true
-  unfolding zeros
-  zeros-end h = rw (drop_of_length-le b h)
-
--- A frame that is not the last of its series.
-pub later_before : (n d : ℕ) → (n ≡ 0 → ⊥) → eqb d 8 ≡ later_fits n d
-unfolding later_fits
-later_before zero d h = absurd (h refl)
-later_before (suc n) d h = refl
-
--- Two identifiers are the same where their four bytes are.
-pub same_four : (a b : List ℕ) → 4 ≤ length a → 4 ≤ length b
-    → (((eqb (get_or a 0 0) (get_or b 0 0) && eqb (get_or a 1 0) (get_or b 1 0)) && eqb (get_or a 2 0) (get_or b 2 0)) && eqb (get_or a 3 0) (get_or b 3 0)) ≡ same_bytes (take 4 a) (take 4 b)
-unfolding same_bytes
-same_four (a ∷ a₁ ∷ a₂ ∷ a₃ ∷ r) (b ∷ b₁ ∷ b₂ ∷ b₃ ∷ s) h k = by (eqb a b) (eqb a₁ b₁) (eqb a₂ b₂) (eqb a₃ b₃)
-  where
-    by : (p q r s : Bool) → (((p && q) && r) && s) ≡ (p && (q && (r && (s && true))))
-    by true true true true = refl
-    by true true true false = refl
-    by true true false s = refl
-    by true false r s = refl
-    by false q r s = refl
-same_four [] b h k = absurd (omega arith)
-same_four (a ∷ []) b h k = absurd (omega arith)
-same_four (a ∷ a₁ ∷ []) b h k = absurd (omega arith)
-same_four (a ∷ a₁ ∷ a₂ ∷ []) b h k = absurd (omega arith)
-same_four (a ∷ a₁ ∷ a₂ ∷ a₃ ∷ r) [] h k = absurd (omega arith)
-same_four (a ∷ a₁ ∷ a₂ ∷ a₃ ∷ r) (b ∷ []) h k = absurd (omega arith)
-same_four (a ∷ a₁ ∷ a₂ ∷ a₃ ∷ r) (b ∷ b₁ ∷ []) h k = absurd (omega arith)
-same_four (a ∷ a₁ ∷ a₂ ∷ a₃ ∷ r) (b ∷ b₁ ∷ b₂ ∷ []) h k = absurd (omega arith)
 
 -- The payload of an answer, and what its count tells.
 abbrev pub payload : {A : Type 0} → Answer A (List ℕ) → List ℕ
@@ -98,10 +52,12 @@ given-measured (given r p) k n e = (let s : length p ≡ n = cc in ap (given r) 
 
 -- A first frame that passed its checks.
 first_fits_lem : (b : List ℕ) → first_checks (take 13 b) ≡ passed → first_fits (get_or b 3 0) (get_or b 4 0) (get_or b 12 0) ≡ true
+unfolding first_checks
 first_fits_lem b e =
-    let h2 = require-passed (type_legal (get_or (take 13 b) 3 0)) 2 _ (sym (first_checks-at (take 13 b)) ∙ e) in
-    let h6 = require-passed (first_fits (get_or (take 13 b) 3 0) (get_or (take 13 b) 4 0) (get_or (take 13 b) 12 0)) 6 _ h2.1 in
-    rw (← get_or-take 13 b 3 0 (omega arith), ← get_or-take 13 b 4 0 (omega arith), ← get_or-take 13 b 12 0 (omega arith)) h6.0
+    let f = take 13 b in
+    let h2 = require-passed (type_legal (get_or f 3 0)) 2 _ e in
+    let h6 = require-passed (first_fits (get_or f 3 0) (get_or f 4 0) (get_or (drop 5 f) 7 0)) 6 _ h2.1 in
+    rw (get_or-drop 5 f 7 0, get_or-take 13 b 3 0 (omega arith), get_or-take 13 b 4 0 (omega arith), get_or-take 13 b 12 0 (omega arith)) at h6.0
 
 module _ (b : List ℕ) (room : 13 ≤ length b) (checks : first_checks (take 13 b) ≡ passed) where
   pub all_single : get_or b 3 0 < 7 → all_frames b ≡ given (drop 13 b) (take (get_or b 4 0) (drop 5 b))
@@ -138,50 +94,39 @@ unfolding counted prepend
 counted-prepend d (refused n) = refl
 counted-prepend d (given r p) = ap (given r) (length-append d p)
 
--- A later frame, at a place of the input, with n still to come.
-module _ (b i : List ℕ) (n at : ℕ) where
-  later_cut : length b - at < 13 → later_frames i (suc n) (drop at b) ≡ refused 1
+-- A later frame at the start of what is left of the input, with n still to come.
+module _ (i : List ℕ) (n : ℕ) (r : List ℕ) where
+  later_cut : length r < 13 → later_frames i (suc n) r ≡ refused 1
   unfolding later_frames require after
-  later_cut h = rw (lt-leb 13 (length (drop at b)) (rw length-drop h))
+  later_cut h = rw (lt-leb 13 (length r) h)
 
-  later-failed : (k : ℕ) → 13 ≤ length b - at → later_checks i n (take 13 (drop at b)) ≡ failed k → later_frames i (suc n) (drop at b) ≡ refused k
+  later-failed : (k : ℕ) → 13 ≤ length r → later_checks i n (take 13 r) ≡ failed k → later_frames i (suc n) r ≡ refused k
   unfolding later_frames require after
-  later-failed k h e = rw (le-leb 13 (length (drop at b)) (rw length-drop h), e)
+  later-failed k h e = rw (le-leb 13 (length r) h, e)
 
-  pub later-passed : 13 ≤ length b - at → later_checks i n (take 13 (drop at b)) ≡ passed
-      → later_frames i (suc n) (drop at b) ≡ prepend (take (get_or b (at + 4) 0 - 1) (drop (at + 5) b)) (later_frames i n (drop (at + 13) b))
+  pub later-passed : 13 ≤ length r → later_checks i n (take 13 r) ≡ passed → later_frames i (suc n) r ≡ prepend (take (get_or r 4 0 - 1) (drop 5 r)) (later_frames i n (drop 13 r))
   unfolding later_frames require after
-  later-passed h e = rw (le-leb 13 (length (drop at b)) (rw length-drop h), e, get_or-drop at b 4 0, drop-drop 5 at b, drop-drop 13 at b)
+  later-passed h e = rw (le-leb 13 (length r) h, e)
 
-  pub passed-dlc : later_checks i n (take 13 (drop at b)) ≡ passed → (1 ≤ get_or b (at + 4) 0) × (get_or b (at + 4) 0 ≤ 8)
+  pub passed-dlc : later_checks i n (take 13 r) ≡ passed → (1 ≤ get_or r 4 0) × (get_or r 4 0 ≤ 8)
   unfolding later_checks
   passed-dlc e =
-      let f = take 13 (drop at b) in
+      let f = take 13 r in
       let h2 = require-passed (type_legal (get_or f 3 0)) 2 _ e in
       let h6 = require-passed (later_fits n (get_or f 4 0)) 6 _ h2.1 in
-      rw (← get_or-drop at b 4 0, ← get_or-take 13 (drop at b) 4 0 (omega arith)) (later-dlc n (get_or f 4 0) h6.0)
+      rw (← get_or-take 13 r 4 0 (omega arith)) (later-dlc n (get_or f 4 0) h6.0)
 
-  -- The same of what the checks told, for the 13 bytes as the code takes them.
-  pub result_passed : (v : Verdict) → verdict_result v ≡ later_checks i n (take (at + 13 - at) (drop at b)) → v ≡ Passed
-      → (later_checks i n (take 13 (drop at b)) ≡ passed) × (1 ≤ get_or b (at + 4) 0) × (get_or b (at + 4) 0 ≤ 8)
-  unfolding verdict_result
-  result_passed v e p =
-      let passes = sym (rw add-sub_cancel_left at e) ∙ ap verdict_result p in
-      let d = passed-dlc passes in
-      (passes, d.0, d.1)
-
-  later-counted : 13 ≤ length b - at → later_checks i n (take 13 (drop at b)) ≡ passed
-      → counted (later_frames i (suc n) (drop at b)) ≡ longer (get_or b (at + 4) 0 - 1) (counted (later_frames i n (drop (at + 13) b)))
+  later-counted : 13 ≤ length r → later_checks i n (take 13 r) ≡ passed → counted (later_frames i (suc n) r) ≡ longer (get_or r 4 0 - 1) (counted (later_frames i n (drop 13 r)))
   later-counted h e =
       let d = passed-dlc e in
-      let size : length (take (get_or b (at + 4) 0 - 1) (drop (at + 5) b)) ≡ get_or b (at + 4) 0 - 1 = length-take-le (get_or b (at + 4) 0 - 1) (drop (at + 5) b) (rw length-drop (omega (arith, d))) in
+      let size : length (take (get_or r 4 0 - 1) (drop 5 r)) ≡ get_or r 4 0 - 1 = length-take-le (get_or r 4 0 - 1) (drop 5 r) (rw length-drop (omega (arith, d))) in
       rw (later-passed h e, counted-prepend, size)
 
--- All frames come to what the later ones from a place on come to, with so many bytes in front.
-abbrev pub Ahead : List ℕ → ℕ → ℕ → ℕ → Type 0
-Ahead b at size k = counted (all_frames b) ≡ longer size (counted (later_frames (take 4 b) k (drop at b)))
+-- All frames come to what the later ones come to that are left, with so many bytes in front.
+abbrev pub Ahead : List ℕ → List ℕ → ℕ → ℕ → Type 0
+Ahead b r size k = counted (all_frames b) ≡ longer size (counted (later_frames (take 4 b) k r))
 
-pub ahead_first : (b : List ℕ) → 13 ≤ length b → first_checks (take 13 b) ≡ passed → 7 ≤ get_or b 3 0 → Ahead b 13 7 (get_or b 12 0)
+pub ahead_first : (b : List ℕ) → 13 ≤ length b → first_checks (take 13 b) ≡ passed → 7 ≤ get_or b 3 0 → Ahead b (drop 13 b) 7 (get_or b 12 0)
 ahead_first b room checks h =
     let size : length (take 7 (drop 5 b)) ≡ 7 = length-take-le 7 (drop 5 b) (rw length-drop (omega arith)) in
     rw (all_series b room checks h, counted-prepend, size)
@@ -195,21 +140,34 @@ pub first-failed : (b : List ℕ) (k : ℕ) → 13 ≤ length b → first_checks
 unfolding all_frames measured require after
 first-failed b k h e = rw (le-leb 13 (length b) h, e)
 
-module _ (b : List ℕ) (at size k n : ℕ) (more : k ≡ suc n) (ahead : Ahead b at size k) where
-  pub ahead_cut : length b - at < 13 → measured (all_frames b) ≡ refused 1
+module _ (b r : List ℕ) (size left : ℕ) (more : 0 < left) (ahead : Ahead b r size left) where
+  ahead_more : Ahead b r size (suc (left - 1))
+  ahead_more = let one : left ≡ suc (left - 1) = omega arith in rw one at ahead
+
+  pub ahead_cut : length r < 13 → measured (all_frames b) ≡ refused 1
   unfolding counted
-  ahead_cut h = measured-refused (all_frames b) 1 (ahead ∙ rw (more, later_cut b (take 4 b) n at h))
+  ahead_cut h = measured-refused (all_frames b) 1 (ahead_more ∙ rw (later_cut (take 4 b) (left - 1) r h))
 
-  pub ahead_failed : (j : ℕ) → 13 ≤ length b - at → later_checks (take 4 b) n (take 13 (drop at b)) ≡ failed j → measured (all_frames b) ≡ refused j
-  unfolding counted
-  ahead_failed j h e = measured-refused (all_frames b) j (ahead ∙ rw (more, later-failed b (take 4 b) n at j h e))
+  -- The next frame, and what is left after it.
+  module _ (f others : List ℕ) (parts : (f ≡ take 13 r) × (others ≡ drop 13 r) × (length others + 13 ≡ length r)) where
+    room : 13 ≤ length r
+    room = omega arith
 
-  pub ahead_passed : 13 ≤ length b - at → later_checks (take 4 b) n (take 13 (drop at b)) ≡ passed → Ahead b (at + 13) (size + (get_or b (at + 4) 0 - 1)) n
-  ahead_passed h e = ahead ∙ rw (more, later-counted b (take 4 b) n at h e, longer_longer)
+    pub ahead_failed : (j : ℕ) → later_checks (take 4 b) (left - 1) f ≡ failed j → measured (all_frames b) ≡ refused j
+    unfolding counted
+    ahead_failed j e = measured-refused (all_frames b) j (ahead_more ∙ rw (later-failed (take 4 b) (left - 1) r j room (rw parts.0 at e)))
 
-pub ahead_done : (b : List ℕ) (at size : ℕ) → Ahead b at size 0 → measured (all_frames b) ≡ given (length b - at) size
+    pub ahead-dlc : later_checks (take 4 b) (left - 1) f ≡ passed → (1 ≤ get_or f 4 0) × (get_or f 4 0 ≤ 8)
+    ahead-dlc e = rw (parts.0, get_or-take 13 r 4 0 (omega arith)) (passed-dlc (take 4 b) (left - 1) r (rw parts.0 at e))
+
+    pub ahead_passed : later_checks (take 4 b) (left - 1) f ≡ passed → Ahead b others (size + (get_or f 4 0 - 1)) (left - 1)
+    ahead_passed e =
+        ahead_more
+        ∙ rw (parts.0, parts.1, get_or-take 13 r 4 0 (omega arith), later-counted (take 4 b) (left - 1) r room (rw parts.0 at e), longer_longer)
+
+pub ahead_done : (b r : List ℕ) (size : ℕ) → Ahead b r size 0 → measured (all_frames b) ≡ given (length r) size
 unfolding later_frames counted
-ahead_done b at size e = measured-given (all_frames b) (drop at b) size (e ∙ ap (given (drop at b)) (add-zero size)) ∙ rw length-drop
+ahead_done b r size e = measured-given (all_frames b) r size (e ∙ ap (given r) (add-zero size))
 
 pub single_measured : (b : List ℕ) → 13 ≤ length b → first_checks (take 13 b) ≡ passed → get_or b 3 0 < 7 → measured (all_frames b) ≡ given (length b - 13) (get_or b 4 0)
 single_measured b room checks h = measured-given (all_frames b) (drop 13 b) (get_or b 4 0) (single_counted b room checks h) ∙ rw length-drop

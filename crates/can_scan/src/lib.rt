@@ -6,11 +6,11 @@ mod scanner;
 
 pub use scanner::scan;
 
-// What the frames at the start of an input come to.
+// What the frames at the start of an input measure, where all passed their checks.
 #[derive(Clone, Copy)]
-pub enum Frames {
-    // The refusal of the first faulty frame.
-    Refused(message_rules::Refusal),
-    // How many bytes are left after the last frame, and how many the payload has.
-    Whole(usize, usize),
+pub struct Whole {
+    // How many bytes of the input are left after the last frame.
+    pub rest: usize,
+    // How many bytes the payload has.
+    pub size: usize,
 }

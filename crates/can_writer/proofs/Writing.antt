@@ -1,88 +1,96 @@
--- How frames are stored. Carried by the law of runs of stores: a run after another is one run of both parts.
-use Prim.Native.Nat.{ℕ, zero, suc, ◌+◌, ◌-◌, ◌*◌, ◌≤◌, ◌<◌}
-use mathlib.Core.List.{List, [], ◌∷◌, ◌++◌, append_assoc}
-use mathlib.Core.Path.{◌≡◌, refl, ◌∙◌, sym, ap}
+-- How frames are put together, and a series of them. Carried by the parts of a list: what is stored after others is found after them.
+use Rattle.std.specs.Prelude.{Err, Ok}
+use Prim.Native.Nat.{ℕ, zero, suc, ◌+◌, ◌-◌, ◌*◌, ◌/◌, ◌≤◌, ◌<◌, min}
+use mathlib.Core.List.{List, [], ◌∷◌, ◌++◌, append_assoc, append-nil}
+use mathlib.Core.Path.{◌≡◌, refl, ◌∙◌, sym}
+use borrow.Rule.Slice.PartMut.{put_mid}
 use native.Mathlib.Omega.{arith}
-use lib.ListN.{length, set, take, drop, replicate, length-append, length-drop}
-use lib.Seq.{sets, length-take-le, drop-drop}
-use Rattle.message_rules.specs.Answer.{given, written, write_result, within, counted, output_after}
+use lib.ListN.{length, set, take, drop, replicate, length-append, length-drop, length-take}
+use lib.Seq.{set_at, take_at, drop_at, take_all, drop-drop}
+use Rattle.std.proofs.lemmas.List.{drop-replicate}
+use Rattle.std.proofs.lemmas.Slice.{take-put_mid}
+use Rattle.message_rules.specs.Answer.{written, write_result, within, counted, output_after}
 use Rattle.message_rules.specs.declared.Refusal.TheVariants.{OutputTooShort}
-use Rattle.message_rules.specs.declared.WriteAnswer.TheVariants.{Refused, Length}
 use Rattle.message_rules.proofs.Answers.{too_short, long_enough}
-use Rattle.message_rules.proofs.Parts.{part-from}
-use Rattle.message_rules.proofs.Stores.{sets-append, sets-start}
 use Rattle.can_rules.specs.Can.{can_frame, series}
+use Rattle.message_rules.proofs.Parts.{part-from}
 use Rattle.can_rules.proofs.Lengths.{frame_length_lem}
 
 module _ (i : List ℕ) (four : length i ≡ 4) where
-  -- The head, the data and the zeros, each stored after the last, are the frame.
-  pub frame_stored_lem : (d out head filled left : List ℕ) (at : ℕ)
-      → head ≡ sets out at (i ++ (length d ∷ [])) → filled ≡ sets head (at + 5) d → left ≡ sets filled (at + 5 + length d) (replicate (8 - length d) 0)
-      → left ≡ sets out at (can_frame i d)
+  -- The identifier, the DLC and the data, each over zeros.
+  pub frame_stored_lem : (d : List ℕ) → length d ≤ 8 → put_mid 5 (length d) (set (i ++ replicate 9 0) 4 (length d)) d ≡ can_frame i d
   unfolding can_frame
-  frame_stored_lem d out head filled left at e f g =
-      let z : List ℕ = replicate (8 - length d) 0 in
-      let five : length (i ++ (length d ∷ [])) ≡ 5 = rw length-append (omega arith) in
-      let rest : left ≡ sets head (at + 5) (d ++ z) = rw (g, f) (sets-append head (at + 5) d z) in
-      let joined : sets (sets out at (i ++ (length d ∷ []))) (at + length (i ++ (length d ∷ []))) (d ++ z) ≡ sets out at ((i ++ (length d ∷ [])) ++ (d ++ z)) = sets-append out at (i ++ (length d ∷ [])) (d ++ z) in
-      rest ∙ rw e ((rw five at joined) ∙ rw append_assoc)
+  frame_stored_lem d h =
+      let head = i ++ (length d ∷ []) in
+      let five : length head ≡ 5 = rw length-append (omega arith) in
+      let stored : set (i ++ replicate 9 0) 4 (length d) ≡ head ++ replicate 8 0 = set_at i 0 (replicate 8 0) (length d) 4 four ∙ sym (append_assoc i (length d ∷ []) (replicate 8 0)) in
+      rw (stored, take_at head (replicate 8 0) 5 five, drop_at head (replicate 8 0) 5 five, drop-replicate {X = ℕ} (length d) 8 0, append_assoc)
 
-  -- The same where the data ends with a count, which is stored by itself.
-  pub counted-stored : (d out head copied left : List ℕ) (n at : ℕ)
-      → head ≡ sets out at (i ++ ((length d + 1) ∷ [])) → copied ≡ sets head (at + 5) d
-      → left ≡ sets (set copied (at + 4 + (length d + 1)) n) (at + 5 + (length d + 1)) (replicate (8 - (length d + 1)) 0)
-      → left ≡ sets out at (can_frame i (d ++ (n ∷ [])))
-  counted-stored d out head copied left n at e f g =
-      let size : length (d ++ (n ∷ [])) ≡ length d + 1 = length-append d (n ∷ []) in
-      let place : at + 4 + (length d + 1) ≡ at + 5 + length d = omega arith in
-      let filled : set copied (at + 4 + (length d + 1)) n ≡ sets head (at + 5) (d ++ (n ∷ [])) = rw (f, place) (sets-append head (at + 5) d (n ∷ [])) in
-      frame_stored_lem (d ++ (n ∷ [])) out head (set copied (at + 4 + (length d + 1)) n) left at (rw size e) filled (rw size g)
+  -- The count after the data, which the DLC counts too.
+  pub counted-stored : (d : List ℕ) (n : ℕ) → length d ≤ 7 → set (set (can_frame i d) 4 (length d + 1)) (5 + length d) n ≡ can_frame i (d ++ (n ∷ []))
+  unfolding can_frame
+  counted-stored d n h =
+      let z : List ℕ = replicate (7 - length d) 0 in
+      let one : 8 - length d ≡ suc (7 - length d) = omega arith in
+      let less : 8 - (length d + 1) ≡ 7 - length d = omega arith in
+      let head = i ++ ((length d + 1) ∷ d) in
+      let long : length head ≡ 5 + length d = rw length-append (omega arith) in
+      let dlc : set (i ++ (length d ∷ (d ++ (0 ∷ z)))) 4 (length d + 1) ≡ head ++ (0 ∷ z) = set_at i (length d) (d ++ (0 ∷ z)) (length d + 1) 4 four ∙ sym (append_assoc i ((length d + 1) ∷ d) (0 ∷ z)) in
+      rw (one, dlc, set_at head 0 z n (5 + length d) long, length-append, less, append_assoc, append_assoc)
 
-  -- A series goes on after its first frame.
-  series-more : (p out next : List ℕ) (at n : ℕ) → 0 < n → 7 ≤ length p → next ≡ sets out at (can_frame i (take 7 p ++ (n ∷ []))) → sets next (at + 13) (series i (n - 1) (drop 7 p)) ≡ sets out at (series i n p)
-  unfolding series
-  series-more p out next at zero h l e = absurd (omega arith)
-  series-more p out next at (suc n) h l e =
-      let f = can_frame i (take 7 p ++ (suc n ∷ [])) in
-      let size = frame_length_lem i four (take 7 p ++ (suc n ∷ [])) (rw (length-append, length-take-le 7 p l) (omega arith)) in
-      let joined : sets (sets out at f) (at + length f) (series i n (drop 7 p)) ≡ sets out at (f ++ series i n (drop 7 p)) = sets-append out at f (series i n (drop 7 p)) in
-      let back : suc n - 1 ≡ n = omega arith in
-      rw (e, back) (rw size at joined)
+-- So many frames that are left of a series.
+unfoldable pub frames_left : List ℕ → ℕ → List ℕ → List ℕ
+frames_left i zero p = []
+frames_left i (suc n) p = series i n p
 
--- Between two frames of a series: so many are left, from `done` of the payload on, at a place that has room for them. What is stored,
--- with them, is the whole. Each but the last takes seven bytes of the payload, and the last fewer.
-pub record Going (i out₀ p : List ℕ) (later : ℕ) (out : List ℕ) (left done at : ℕ) : Type 0 where
-  pub kept : length out ≡ length out₀
-  pub full : done + left * 7 ≤ length p
-  pub last : length p < done + left * 7 + 7
-  pub room : at + 13 * (left + 1) ≤ length out
-  pub whole : sets out at (series i left (drop done p)) ≡ sets out₀ 0 (series i later p)
+-- Before the frame k of a series: what is stored, and the frames left, are the series.
+abbrev pub Going : List ℕ → List ℕ → List ℕ → ℕ → Type 0
+Going i p out k = take (13 * k) out ++ frames_left i (length p / 7 + 1 - k) (drop (7 * k) p) ≡ series i (length p / 7) p
 
-module _ (i : List ℕ) (four : length i ≡ 4) (out₀ p out next : List ℕ) (later left done at : ℕ) (going : Going i out₀ p later out left done at) where
-  pub series_turn : 0 < left → length next ≡ length out → next ≡ sets out at (can_frame i (take (done + 7 - done) (drop done p) ++ (left ∷ []))) → Going i out₀ p later next (left - 1) (done + 7) (at + 13)
-  series_turn h k e =
-      let seven : done + 7 - done ≡ 7 = omega arith in
-      let enough : 7 ≤ length (drop done p) = rw length-drop (omega arith) in
-      record {
-        kept = k ∙ going.kept;
-        full = omega arith;
-        last = omega arith;
-        room = omega arith;
-        whole = (rw drop-drop at (series-more i four (drop done p) out next at left h enough (rw seven at e))) ∙ going.whole;
-      }
+pub going_first : (i p out : List ℕ) → Going i p out 0
+unfolding frames_left
+going_first i p out = let all : length p / 7 + 1 - 0 ≡ suc (length p / 7) = omega arith in rw all
 
-  pub series-end : left ≡ 0 → next ≡ sets out at (can_frame i (take (length p - done) (drop done p) ++ (0 ∷ []))) → next ≡ sets out₀ 0 (series i later p)
-  unfolding series
-  series-end z e = (rw part-from at e) ∙ (rw z at going.whole)
+module _ (i : List ℕ) (four : length i ≡ 4) (p out : List ℕ) (k : ℕ) (one : k < length p / 7 + 1) (room : length out ≡ 13 * (length p / 7 + 1)) where
+  abbrev pub part : List ℕ
+  part = take (min (7 * k + 7) (length p) - 7 * k) (drop (7 * k) p)
 
--- The answer where the bytes do not fit, and where they were stored from the start on.
+  turn : (n : ℕ) → n ≡ length p / 7 - k → (f : List ℕ) → f ≡ can_frame i (part ++ (n ∷ [])) → f ++ frames_left i n (drop (7 * k + 7) p) ≡ series i n (drop (7 * k) p)
+  unfolding frames_left series
+  turn zero e f h =
+      let rest : min (7 * k + 7) (length p) ≡ length p = omega arith in
+      rw (h, rest, part-from, append-nil)
+  turn (suc n) e f h =
+      let seven : min (7 * k + 7) (length p) - 7 * k ≡ 7 = omega arith in
+      rw (h, seven, drop-drop)
+
+  pub going_more : Going i p out k → (f : List ℕ) → f ≡ can_frame i (part ++ ((length p / 7 - k) ∷ [])) → Going i p (put_mid (13 * k) 13 out f) (k + 1)
+  unfolding frames_left
+  going_more going f h =
+      let n = length p / 7 - k in
+      let left : length p / 7 + 1 - k ≡ suc n = omega arith in
+      let next : length p / 7 + 1 - (k + 1) ≡ n = omega arith in
+      let short : length part ≤ 7 = rw (length-take, length-drop) (omega arith) in
+      let long : length f ≡ 13 = rw h (frame_length_lem i four (part ++ (n ∷ [])) (rw length-append (omega arith))) in
+      let stored : take (13 * (k + 1)) (put_mid (13 * k) 13 out f) ≡ take (13 * k) out ++ f = take-put_mid (13 * k) 13 out f (13 * (k + 1)) (omega (arith, long)) (omega arith) in
+      let seven : 7 * (k + 1) ≡ 7 * k + 7 = omega arith in
+      rw (stored, next, seven, append_assoc, turn n refl f h) (rw left at going)
+
+pub going_done : (i p out : List ℕ) (k : ℕ) → length p / 7 + 1 ≤ k → length out ≡ 13 * (length p / 7 + 1) → Going i p out k → out ≡ series i (length p / 7) p
+unfolding frames_left
+going_done i p out k e room going =
+    let none : length p / 7 + 1 - k ≡ 0 = omega arith in
+    let all : take (13 * k) out ≡ out = take_all (13 * k) out (omega arith) in
+    sym (append-nil out) ∙ rw (none, all) at going
+
+-- The answer where the bytes do not fit, and where they lie at the start of the output.
 module _ (b out : List ℕ) (n : ℕ) (size : length b ≡ n) where
-  pub refused_short : length out < n → (write_result (Refused OutputTooShort) ≡ counted (within out (written b))) × (out ≡ output_after (within out (written b)) out)
+  pub refused_short : length out < n → (write_result (Err OutputTooShort) ≡ counted (within out (written b))) × (out ≡ output_after (within out (written b)) out)
   unfolding write_result counted output_after
   refused_short h = rw (too_short out (tt {0}) b (rw size h)) (refl, refl)
 
-  pub given-stored : (left : List ℕ) → n ≤ length out → left ≡ sets out 0 b → (write_result (Length n) ≡ counted (within out (written b))) × (left ≡ output_after (within out (written b)) out)
+  pub given-filled : (left : List ℕ) → n ≤ length out → left ≡ b → (write_result (Ok n) ≡ counted (within out (written b))) × (left ++ drop n out ≡ output_after (within out (written b)) out)
   unfolding write_result counted output_after
-  given-stored left h e =
+  given-filled left h e =
       let fits : length b ≤ length out = rw size h in
-      rw (long_enough out (tt {0}) b fits) (ap (given (tt {0})) (sym size), e ∙ sets-start b out fits)
+      rw (long_enough out (tt {0}) b fits, e, size) (refl, refl)

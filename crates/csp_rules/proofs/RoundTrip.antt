@@ -1,4 +1,5 @@
 -- Both round trips of CSP (demand 2): those of the data, after the type and the ID.
+use Rattle.std.specs.Prelude.{None, Option, Some}
 use Prim.Native.Nat.{ℕ, ◌≤◌}
 use mathlib.Core.Bool.{true, false}
 use mathlib.Core.List.{List, [], ◌∷◌, ◌++◌}
@@ -12,8 +13,6 @@ use Rattle.message_rules.specs.Checks.{writable, write_checks}
 use Rattle.message_rules.specs.Kinds.{type_number, type_kind, carried_on}
 use Rattle.message_rules.specs.declared.Kind.{Kind}
 use Rattle.message_rules.specs.declared.Message.{Message}
-use Rattle.message_rules.specs.declared.KindLookup.{KindLookup}
-use Rattle.message_rules.specs.declared.KindLookup.TheVariants.{Known, Unknown}
 use Rattle.message_rules.proofs.Answers.{after-given}
 use Rattle.message_rules.proofs.Data.{data-written, data_read_lem}
 use Rattle.message_rules.proofs.Checks.{require-passed, plain-writable, writable-plain}
@@ -32,7 +31,7 @@ written-reads m p b e =
     rw (← g.2, le-leb _ _ two, kind_of_type_lem m.kind l.0) (ap (λ (i : ℕ). data_read m.kind i 0 0 (data_bytes m p)) id ∙ data-written false m p w.1 l.1)
 
 -- Writing what was read returns the bytes: first of a known type,
-typed_writes : (t id : ℕ) (d : List ℕ) (m : Message) (p : List ℕ) (k : Kind) → type_kind t ≡ Known k → data_read k id 0 0 d ≡ given m p → csp_write m p ≡ written (t ∷ id ∷ d)
+typed_writes : (t id : ℕ) (d : List ℕ) (m : Message) (p : List ℕ) (k : Kind) → type_kind t ≡ Some k → data_read k id 0 0 d ≡ given m p → csp_write m p ≡ written (t ∷ id ∷ d)
 unfolding csp_write csp_head data_bytes data_message write_checks require after
 typed_writes t id d m p k q e =
     let r = data_read_lem k id 0 0 d m p e in
@@ -54,6 +53,6 @@ read_writes (t ∷ id ∷ d) m p e = by (type_kind t) refl
     two : 2 ≤ length (t ∷ id ∷ d)
     two = omega arith
 
-    by : (k : KindLookup) → type_kind t ≡ k → csp_write m p ≡ written (t ∷ id ∷ d)
-    by Unknown q = absurd (let z : ◌≡◌ {A = ℕ} 0 1 = cc (rw (le-leb _ _ two, q) at e) in omega arith)
-    by (Known k) q = typed_writes t id d m p k q (rw (le-leb _ _ two, q) at e)
+    by : (k : Option Kind) → type_kind t ≡ k → csp_write m p ≡ written (t ∷ id ∷ d)
+    by None q = absurd (let z : ◌≡◌ {A = ℕ} 0 1 = cc (rw (le-leb _ _ two, q) at e) in omega arith)
+    by (Some k) q = typed_writes t id d m p k q (rw (le-leb _ _ two, q) at e)

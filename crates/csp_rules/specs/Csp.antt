@@ -1,18 +1,17 @@
 -- CSP data (document 01, "CAN and CSP"): the type 1..6, the ID, then the data as on a serial link.
-use Rattle.std.specs.Prelude.{ℕ, true, false, List, ◌∷◌, ◌++◌, leb, length, get_or, drop}
+use Rattle.message_rules.specs.declared.Kind.{Kind}
+use Rattle.std.specs.Prelude.{ℕ, true, false, List, ◌∷◌, ◌++◌, leb, length, get_or, drop, None, Option, Some}
 use Rattle.message_rules.specs.Answer.{Answer, refused, passed, require, after, written}
 use Rattle.message_rules.specs.Data.{data_read, error_bytes}
 use Rattle.message_rules.specs.Checks.{write_checks}
 use Rattle.message_rules.specs.Kinds.{type_number, type_kind}
 use Rattle.message_rules.specs.declared.Carries.{Carries}
 use Rattle.message_rules.specs.declared.Message.{Message}
-use Rattle.message_rules.specs.declared.KindLookup.{KindLookup}
-use Rattle.message_rules.specs.declared.KindLookup.TheVariants.{Known, Unknown}
 
 -- 2: no type of this link. CSP carries no addresses: they read as 0.
-unfoldable pub csp_typed : KindLookup → ℕ → List ℕ → Answer Message (List ℕ)
-csp_typed Unknown id d = refused 2
-csp_typed (Known k) id d = data_read k id 0 0 d
+unfoldable pub csp_typed : Option Kind → ℕ → List ℕ → Answer Message (List ℕ)
+csp_typed None id d = refused 2
+csp_typed (Some k) id d = data_read k id 0 0 d
 
 -- "Refusal numbers", CSP: 1 (under two bytes), 2, 5, 6, 7. The 8 comes with the lent output.
 unfoldable pub csp_read : List ℕ → Answer Message (List ℕ)

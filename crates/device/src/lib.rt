@@ -4,7 +4,7 @@
 
 mod receiver;
 
-pub use device_rules::{Device, Outcome, Phase, Received, Transfer, UnitAnswer};
+pub use device_rules::{Device, Phase, Received, Transfer};
 pub use device_state::make;
 pub use device_work::work;
 pub use receiver::receive;

@@ -1,14 +1,14 @@
-// Bytes that arrive at the unit, and what it answers.
-ghost use Rattle.std.specs.Prelude.{cond, ◌≡◌, length};
-ghost use Rattle.message_rules.specs.Answer.{given, within, counted, output_after, about};
+// Bytes that arrive at the unit, and what it answers. A function takes what its part of the reply needs of unit, message, payload and output.
+ghost use Rattle.std.specs.Prelude.{◌≡◌, length};
+ghost use Rattle.message_rules.specs.Answer.{given, within, about, counted, output_after};
 ghost use Rattle.link_rules.specs.Link.{link_write};
-ghost use Rattle.device_rules.specs.Device.{is_finished};
 ghost use Rattle.device_rules.specs.Answers.{receive_result, after_receive};
-ghost use Rattle.device_rules.specs.Receive.{addressing, answer_source, answer_to, info_bytes, command_answer, telecommand_reply, telemetry_reply, kind_reply, after_broadcast, message_reply, receive, answers};
+ghost use Rattle.device_rules.specs.Receive.{answers, addressing, answer_source, answer_to, info_bytes, command_answer, telecommand_reply, telemetry_reply, message_reply, receive};
+ghost use Rattle.device.specs.Gives.{Gives};
 
-use device_rules::{Addressing, Device, Fault, Outcome, Phase, Received, Transfer};
+use device_rules::{Addressing, Device, Fault, Phase, Received, Transfer};
 use link_rules::Link;
-use message_rules::{ErrorByte, Kind, Message, ReadAnswer, WriteAnswer};
+use message_rules::{Kind, Message};
 
 // Takes bytes that arrived while a store is lent; an answer goes to the start of out. Answered or not, the unit may have changed.
 pub fn receive(device: Device, bytes: &[u8], store: &[u8], out: &mut [u8]) -> Received
@@ -16,43 +16,25 @@ pub fn receive(device: Device, bytes: &[u8], store: &[u8], out: &mut [u8]) -> Re
     ensures device_value_2 { result.device ≡ after_receive device (within out.old (receive device (length store.now) bytes.now)) }
     ensures out_after { out.new ≡ output_after (within out.old (receive device (length store.now) bytes.now)) out.old }
 {
-    let link = device.link;
-    let mut payload = [0u8; 256];
-    let ReadAnswer::Message(message, length) = link_reader::read(link, bytes, &mut payload) else {
+    let mut payload = [0; 256];
+    let Ok((message, length)) = link_reader::read(device.link, bytes, &mut payload) else {
         return silence(device);
     };
     message_reply(device, store.len(), message, &payload[..length], out)
 }
 
 fn silence(device: Device) -> Received
-    ensures { (result.device ≡ device) × (result.outcome ≡ Outcome.Silent) }
+    ensures { result ≡ record { device = device; outcome = Ok None } }
 {
     Received {
         device,
-        outcome: Outcome::Silent,
+        outcome: Ok(None),
     }
 }
 
-fn addressing(link: Link, own: u8, message: Message) -> Addressing
-    ensures { result ≡ addressing link own message }
-{
-    match link {
-        Link::Uart => Addressing::Own,
-        Link::Rs485 => {
-            if message.destination == 0 {
-                return Addressing::Broadcast;
-            }
-            if message.destination == own {
-                return Addressing::Own;
-            }
-            Addressing::Other
-        }
-        Link::Can => Addressing::Own,
-        Link::Csp => Addressing::Own,
-    }
-}
-
-// A message that is the unit's is answered by its kind, a broadcast gets no answer, whatever it does, and another's is passed over.
+// A message that is the unit's is answered by its kind, a telecommand and a telemetry request alone. A broadcast gets no answer, whatever it does: a telecommand
+// is carried out, unless it has a fault, and everything else is passed over, as another's message is.
+#[tactic(auto, unfolding(device_rules::specs::Receive::message_reply, device_rules::specs::Receive::addressed_reply, device_rules::specs::Receive::kind_reply, device_rules::specs::Receive::after_broadcast, device_rules::specs::Answers::receive_result, device_rules::specs::Answers::after_receive, message_rules::specs::Answer::within, message_rules::specs::Answer::require, message_rules::specs::Answer::after, message_rules::specs::Answer::counted, message_rules::specs::Answer::output_after))]
 fn message_reply(
     device: Device,
     store: usize,
@@ -60,64 +42,33 @@ fn message_reply(
     payload: &[u8],
     out: &mut [u8],
 ) -> Received
-    ensures device_value { receive_result result.outcome result.device ≡ counted (within out.old (message_reply device store (given message payload.now))) }
-    ensures device_value_2 { result.device ≡ after_receive device (within out.old (message_reply device store (given message payload.now))) }
-    ensures out_after { out.new ≡ output_after (within out.old (message_reply device store (given message payload.now))) out.old }
+    ensures { Gives device out.old (message_reply device store (given message payload.now)) result out.new }
 {
-    let link = device.link;
-    match addressing(link, device.own, message) {
-        Addressing::Own => kind_reply(device, store, message, payload, out),
-        Addressing::Broadcast => {
-            let next = after_broadcast(device, store, message, payload);
-            silence(next)
+    match (addressing(device.link, device.own, message), message.kind) {
+        (Addressing::Own, Kind::Telecommand) => {
+            telecommand_reply(device, store, message, payload, out)
         }
-        Addressing::Other => silence(device),
+        (Addressing::Own, Kind::TelemetryRequest) => telemetry_reply(device, message, out),
+        (Addressing::Broadcast, Kind::Telecommand) => {
+            silence(device_commands::after_command(device, store, message.id, payload))
+        }
+        _ => silence(device),
     }
 }
 
-// The unit after a broadcast: a telecommand is carried out, unless it has a fault, and everything else is passed over.
-#[tactic(auto, unfolding(device_rules::specs::Receive::after_broadcast))]
-fn after_broadcast(device: Device, store: usize, message: Message, payload: &[u8]) -> Device
-    ensures { result ≡ after_broadcast device store message payload.now }
+#[tactic(auto, unfolding(device_rules::specs::Receive::addressing))]
+fn addressing(link: Link, own: u8, message: Message) -> Addressing
+    ensures { result ≡ addressing link own message }
 {
-    let kind = message.kind;
-    match kind {
-        Kind::Telecommand => device_commands::after_command(device, store, message.id, payload),
-        Kind::TelecommandAck => device,
-        Kind::TelecommandNack => device,
-        Kind::TelemetryRequest => device,
-        Kind::TelemetryResponse => device,
-        Kind::TelemetryNack => device,
-        Kind::Event => device,
+    match link {
+        Link::Rs485 if message.destination == 0 => Addressing::Broadcast,
+        Link::Rs485 if message.destination != own => Addressing::Other,
+        Link::Uart | Link::Rs485 | Link::Can | Link::Csp => Addressing::Own,
     }
 }
 
-// The reply to a message for the unit, by its kind.
-fn kind_reply(
-    device: Device,
-    store: usize,
-    message: Message,
-    payload: &[u8],
-    out: &mut [u8],
-) -> Received
-    ensures device_value { receive_result result.outcome result.device ≡ counted (within out.old (kind_reply message.kind device store message payload.now)) }
-    ensures device_value_2 { result.device ≡ after_receive device (within out.old (kind_reply message.kind device store message payload.now)) }
-    ensures out_after { out.new ≡ output_after (within out.old (kind_reply message.kind device store message payload.now)) out.old }
-{
-    let kind = message.kind;
-    match kind {
-        Kind::Telecommand => telecommand_reply(device, store, message, payload, out),
-        Kind::TelecommandAck => silence(device),
-        Kind::TelecommandNack => silence(device),
-        Kind::TelemetryRequest => telemetry_reply(device, message, out),
-        Kind::TelemetryResponse => silence(device),
-        Kind::TelemetryNack => silence(device),
-        Kind::Event => silence(device),
-    }
-}
-
-// The answer is written first, and not by `send`, which would be given both units: so no second unit is kept beside the one that came. The fault is looked at
-// twice, for the answer and for the command.
+// The answer is written first, and the command carried out then: so no second unit is kept beside the one that came. The fault is looked at twice, for the
+// answer and for the command.
 fn telecommand_reply(
     device: Device,
     store: usize,
@@ -125,125 +76,91 @@ fn telecommand_reply(
     payload: &[u8],
     out: &mut [u8],
 ) -> Received
-    ensures device_value { receive_result result.outcome result.device ≡ counted (within out.old (telecommand_reply device store message payload.now)) }
-    ensures device_value_2 { result.device ≡ after_receive device (within out.old (telecommand_reply device store message payload.now)) }
-    ensures out_after { out.new ≡ output_after (within out.old (telecommand_reply device store message payload.now)) out.old }
+    ensures { Gives device out.old (telecommand_reply device store message payload.now) result out.new }
 {
-    let link = device.link;
     let fault = device_faults::command_fault(device, store, message.id, payload);
     let answer = command_answer(device, message, fault);
-    match link_writer::write(link, answer, &[], out) {
-        WriteAnswer::Length(n) => Received {
+    match link_writer::write(device.link, answer, &[], out) {
+        Ok(n) => Received {
             device: device_commands::after_command(device, store, message.id, payload),
-            outcome: Outcome::Answer(n),
+            outcome: Ok(Some(n)),
         },
-        WriteAnswer::Refused(refusal) => Received {
+        Err(refusal) => Received {
             device,
-            outcome: Outcome::Refused(refusal),
+            outcome: Err(refusal),
         },
     }
 }
 
-fn command_answer(device: Device, request: Message, fault: Fault) -> Message
+#[tactic(auto, unfolding(device_rules::specs::Receive::command_answer))]
+fn command_answer(device: Device, request: Message, fault: Option<Fault>) -> Message
     ensures { result ≡ command_answer device request fault }
 {
     match fault {
-        Fault::None => answer_to(device, request, Kind::TelecommandAck, 0, 0),
-        Fault::Repeat => answer_to(device, request, Kind::TelecommandAck, 0, 0),
-        Fault::Nack(error, index) => {
+        None | Some(Fault::Repeat) => answer_to(device, request, Kind::TelecommandAck, 0, 0),
+        Some(Fault::Nack(error, index)) => {
             answer_to(device, request, Kind::TelecommandNack, error, index)
         }
     }
 }
 
+// The unit stays as it is.
+#[tactic(auto, unfolding(device_rules::specs::Receive::telemetry_reply))]
 fn telemetry_reply(device: Device, message: Message, out: &mut [u8]) -> Received
-    ensures device_value { receive_result result.outcome result.device ≡ counted (within out.old (telemetry_reply device message)) }
-    ensures device_value_2 { result.device ≡ after_receive device (within out.old (telemetry_reply device message)) }
-    ensures out_after { out.new ≡ output_after (within out.old (telemetry_reply device message)) out.old }
+    ensures { Gives device out.old (telemetry_reply device message) result out.new }
 {
-    if message.id == 150 {
-        let transfer = device.transfer;
-        let info = info_bytes(transfer);
-        let answer = answer_to(device, message, Kind::TelemetryResponse, 0, 0);
-        return send(device, answer, &info, out);
+    if message.id != 150 {
+        let answer = answer_to(device, message, Kind::TelemetryNack, 1, 0);
+        return send(device, answer, &[], out);
     }
-    let answer = answer_to(device, message, Kind::TelemetryNack, 1, 0);
-    send(device, answer, &[], out)
+    let answer = answer_to(device, message, Kind::TelemetryResponse, 0, 0);
+    send(device, answer, &info_bytes(device.transfer), out)
 }
 
 // Writes the answer of a unit that stays as it is.
 fn send(device: Device, answer: Message, payload: &[u8], out: &mut [u8]) -> Received
-    ensures device_value { receive_result result.outcome result.device ≡ counted (within out.old (about (answers device) (link_write device.link answer payload.now))) }
-    ensures device_value_2 { result.device ≡ after_receive device (within out.old (about (answers device) (link_write device.link answer payload.now))) }
-    ensures out_after { out.new ≡ output_after (within out.old (about (answers device) (link_write device.link answer payload.now))) out.old }
+    ensures { Gives device out.old (about (answers device) (link_write device.link answer payload.now)) result out.new }
 {
-    let link = device.link;
-    match link_writer::write(link, answer, payload, out) {
-        WriteAnswer::Length(n) => Received {
-            device,
-            outcome: Outcome::Answer(n),
-        },
-        WriteAnswer::Refused(refusal) => Received {
-            device,
-            outcome: Outcome::Refused(refusal),
-        },
+    Received {
+        device,
+        outcome: link_writer::write(device.link, answer, payload, out).map(Some),
     }
 }
 
 // The answer to a request: of a kind, with an error byte and an index.
+#[tactic(auto, unfolding(device_rules::specs::Receive::answer_to))]
 fn answer_to(device: Device, request: Message, kind: Kind, error: u8, index: u8) -> Message
     ensures { result ≡ answer_to device request kind error index }
 {
-    let link = device.link;
     Message {
         kind,
         id: request.id,
-        source: answer_source(link, device.own, request),
+        source: answer_source(device.link, device.own, request),
         destination: request.source,
-        error: ErrorByte::Told(error),
+        error: Some(error),
         index,
     }
 }
 
+#[tactic(auto, unfolding(device_rules::specs::Receive::answer_source))]
 fn answer_source(link: Link, own: u8, request: Message) -> u8
     ensures { result ≡ answer_source link own request }
 {
     match link {
-        Link::Uart => request.destination,
         Link::Rs485 => own,
-        Link::Can => request.destination,
-        Link::Csp => request.destination,
+        Link::Uart | Link::Can | Link::Csp => request.destination,
     }
 }
 
-// Number, size and checksum of the buffered frame, and the flags.
+// Number, size and checksum of the buffered frame, and the flags. Bit 0 is finished; the unit never sets bit 1, the error.
+#[tactic(auto, unfolding(device_rules::specs::Receive::info_bytes, little_endian_rules::specs::LittleEndian::to_bytes, device_rules::specs::Device::buffered_frame))]
 fn info_bytes(transfer: Transfer) -> [u8; 7]
     ensures { result ≡ info_bytes transfer }
 {
-    let buffer = transfer.buffer;
     let length = device_state::buffered_length(transfer);
-    let number = little_endian::u16_to_bytes(transfer.number);
-    let size = little_endian::u16_to_bytes(length as u16);
-    let checksum = little_endian::u16_to_bytes(file_checksum::checksum(&buffer[..length]));
-    let phase = transfer.phase;
-    [
-        number[0],
-        number[1],
-        size[0],
-        size[1],
-        checksum[0],
-        checksum[1],
-        flags(phase),
-    ]
-}
-
-// Bit 0: finished. The unit never sets bit 1, the error.
-fn flags(phase: Phase) -> u8
-    ensures { result ≡ cond (is_finished phase) 1 0 }
-{
-    match phase {
-        Phase::Idle => 0,
-        Phase::Open => 0,
-        Phase::Finished => 1,
-    }
+    let [n0, n1] = little_endian::u16_to_bytes(transfer.number);
+    let [s0, s1] = little_endian::u16_to_bytes(length as u16);
+    let [c0, c1] = little_endian::u16_to_bytes(file_checksum::checksum(&transfer.buffer[..length]));
+    let flags = u8::from(transfer.phase == Phase::Finished);
+    [n0, n1, s0, s1, c0, c1, flags]
 }

@@ -2,13 +2,14 @@
 ghost use Rattle.std.specs.Prelude.{◌≡◌};
 ghost use Rattle.device_rules.specs.Faults.{cancel_fault};
 
-use crate::Fault;
+use device_rules::Fault;
 
-pub(crate) fn cancel_fault(payload: &[u8]) -> Fault
+#[tactic(auto, unfolding(device_rules::specs::Faults::fault, device_rules::specs::Faults::cancel_fault))]
+pub(crate) fn cancel_fault(payload: &[u8]) -> Option<Fault>
     ensures { result ≡ cancel_fault payload.now }
 {
-    if payload.len() != 0 {
-        return Fault::Nack(2, 0);
+    if !payload.is_empty() {
+        return Some(Fault::Nack(2, 0));
     }
-    Fault::None
+    None
 }

@@ -2,24 +2,20 @@
 ghost use Rattle.std.specs.Prelude.{◌≡◌};
 ghost use Rattle.device_rules.specs.Faults.{frame_fault};
 
-use crate::phase::is_open;
-use device_rules::{Fault, Transfer};
+use device_rules::{Fault, Phase, Transfer};
 
-pub(crate) fn frame_fault(transfer: Transfer, payload: &[u8]) -> Fault
+#[tactic(auto, unfolding(device_rules::specs::Faults::fault, device_rules::specs::Faults::frame_fault))]
+pub(crate) fn frame_fault(transfer: Transfer, payload: &[u8]) -> Option<Fault>
     ensures { result ≡ frame_fault transfer payload.now }
 {
-    if payload.len() == 0 {
-        return Fault::Nack(2, 0);
+    if payload.is_empty() || 256 < payload.len() {
+        return Some(Fault::Nack(2, 0));
     }
-    if 256 < payload.len() {
-        return Fault::Nack(2, 0);
-    }
-    let phase = transfer.phase;
-    if !is_open(phase) {
-        return Fault::Nack(7, 0);
+    if transfer.phase != Phase::Open {
+        return Some(Fault::Nack(7, 0));
     }
     if transfer.pending {
-        return Fault::Nack(6, 0);
+        return Some(Fault::Nack(6, 0));
     }
-    Fault::None
+    None
 }

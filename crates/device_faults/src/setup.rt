@@ -1,55 +1,40 @@
-// Setup: its faults, in the order of document 02, and the tests of its job.
+// Setup: its faults, in the order of document 02.
 ghost use Rattle.std.specs.Prelude.{◌≡◌};
-ghost use Rattle.file_rules.specs.Setup.{setup_read, is_job};
+ghost use Rattle.file_rules.specs.Setup.{setup_read};
 ghost use Rattle.device_rules.specs.Faults.{is_repeat, setup_fault};
 
-use crate::phase::is_open;
-use device_rules::{Device, Fault, Transfer};
-use file_rules::{Job, SetupAnswer};
+use device_rules::{Device, Fault, Phase, Transfer};
+use file_rules::Announcement;
 
-pub(crate) fn setup_fault(device: Device, store: usize, payload: &[u8]) -> Fault
+#[tactic(auto, unfolding(device_rules::specs::Faults::fault, device_rules::specs::Faults::setup_fault))]
+pub(crate) fn setup_fault(device: Device, store: usize, payload: &[u8]) -> Option<Fault>
     ensures { result ≡ setup_fault device store (setup_read payload.now) }
 {
-    let SetupAnswer::Setup(size, number) = file_setup::read(payload) else {
-        return Fault::Nack(2, 0);
+    let Some(Announcement { size, number }) = file_setup::read(payload) else {
+        return Some(Fault::Nack(2, 0));
     };
-    let transfer = device.transfer;
-    if is_repeat(transfer, size, number) {
-        return Fault::Repeat;
+    if is_repeat(device.transfer, size, number) {
+        return Some(Fault::Repeat);
     }
-    if transfer.pending {
-        return Fault::Nack(6, 0);
+    if device.transfer.pending {
+        return Some(Fault::Nack(6, 0));
     }
-    let phase = transfer.phase;
-    if is_open(phase) {
-        return Fault::Nack(7, 0);
+    if device.transfer.phase == Phase::Open {
+        return Some(Fault::Nack(7, 0));
     }
-    let finished = device.finished;
-    if is_job(finished, number) {
-        return Fault::Nack(7, 0);
+    if device.finished == Some(number) {
+        return Some(Fault::Nack(7, 0));
     }
-    if !file_frames::size_legal(size as usize) {
-        return Fault::Nack(3, 0);
+    if !file_frames::size_legal(size as usize) || store < size as usize {
+        return Some(Fault::Nack(3, 0));
     }
-    if store < size as usize {
-        return Fault::Nack(3, 0);
-    }
-    Fault::None
+    None
 }
 
 // The open job decides, whatever the phase is.
+#[tactic(auto, unfolding(device_rules::specs::Faults::is_repeat))]
 fn is_repeat(transfer: Transfer, size: u32, number: u32) -> bool
     ensures { result ≡ is_repeat transfer size number }
 {
-    let job = transfer.job;
-    is_job(job, number) && size == transfer.size
-}
-
-fn is_job(job: Job, number: u32) -> bool
-    ensures { result ≡ is_job job number }
-{
-    match job {
-        Job::None => false,
-        Job::Number(n) => n == number,
-    }
+    transfer.job == Some(number) && size == transfer.size
 }

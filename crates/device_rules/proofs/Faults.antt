@@ -1,4 +1,6 @@
 -- Which fault a command meets at a unit that has stored i frames: carried by the laws of Order, and by the tests of frame. Demand 3 rests on these.
+use Rattle.file_rules.specs.Setup.{announced}
+use Rattle.std.specs.Prelude.{None, Some, Option}
 use Prim.Native.Nat.{ℕ, ◌+◌, ◌*◌, ◌-◌, ◌%◌, ◌≤◌, ◌<◌, min}
 use mathlib.Core.Bool.{Bool, true, false, cond, not}
 use mathlib.Core.List.{List}
@@ -11,8 +13,6 @@ use Rattle.little_endian_rules.specs.LittleEndian.{from_bytes, to_bytes}
 use Rattle.little_endian_rules.proofs.Laws.{to-length, from_to_lem}
 use Rattle.message_rules.proofs.Checks.{both_false}
 use Rattle.file_rules.specs.File.{size_legal, frame_count}
-use Rattle.file_rules.specs.declared.Job.TheVariants as JobOf
-use Rattle.file_rules.specs.declared.SetupAnswer.TheVariants.{Setup}
 use Rattle.device_rules.specs.Commands.{new_transfer}
 use Rattle.device_rules.specs.Device.{is_idle, buffered_frame, empty_buffer, with_transfer}
 use Rattle.device_rules.specs.declared.Device.{Device}
@@ -20,17 +20,17 @@ use Rattle.device_rules.specs.declared.Transfer.{Transfer}
 use Rattle.device_rules.specs.declared.Phase.TheVariants as PhaseOf
 use Rattle.device_rules.specs.Faults.{fault, is_repeat, setup_fault, frame_fault, command_fault}
 use Rattle.device_rules.specs.declared.Fault.{Fault}
-use Rattle.device_rules.specs.declared.Fault.TheVariants.{None, Repeat, Nack}
+use Rattle.device_rules.specs.declared.Fault.TheVariants.{Repeat, Nack}
 use Rattle.device_rules.proofs.Order.{setup_repeats, take_waits, take-finished, take-repeated, take_next}
 
 -- A command without a fault passed every test.
-pub fault-none : (e i : ℕ) (t : Bool) (rest : Fault) → fault e i t rest ≡ None → (t ≡ false) × (rest ≡ None)
+pub fault-none : (e i : ℕ) (t : Bool) (rest : Option Fault) → fault e i t rest ≡ None → (t ≡ false) × (rest ≡ None)
 unfolding fault
 fault-none e i true rest h = absurd (let z : ◌≡◌ {A = ℕ} 0 1 = cc in omega arith)
 fault-none e i false rest h = (refl, h)
 
 -- So did a setup that is carried out: nothing is pending, and its size fits the store.
-pub setup-passed : (d : Device) (store size number : ℕ) → setup_fault d store (Setup size number) ≡ None → (d.transfer.pending ≡ false) × (size ≤ store)
+pub setup-passed : (d : Device) (store size number : ℕ) → setup_fault d store (announced size number) ≡ None → (d.transfer.pending ≡ false) × (size ≤ store)
 unfolding setup_fault
 setup-passed d store size number e = by (is_repeat d.transfer size number) refl
   where
@@ -54,7 +54,7 @@ transfer_at size number i buffer buffered pending =
       pending = pending;
       size = size;
       stored = min (256 * i) size;
-      job = cond (eqb i (frame_count size)) JobOf.None (JobOf.Number number);
+      job = cond (eqb i (frame_count size)) None (Some number);
     }
 
 -- The unit then: once all frames are stored, the job is the last finished one. The rest is as it was.
@@ -64,7 +64,7 @@ unit_at d size number i buffer buffered pending =
       link = d.link;
       own = d.own;
       transfer = transfer_at size number i buffer buffered pending;
-      finished = cond (eqb i (frame_count size)) (JobOf.Number number) d.finished;
+      finished = cond (eqb i (frame_count size)) (Some number) d.finished;
     }
 
 -- So a setup that is carried out leaves it.
@@ -84,7 +84,7 @@ module _ (d : Device) (n number i store : ℕ) (buffer : List ℕ) (buffered : �
   unit j pending = unit_at d n number j buffer buffered pending
 
   -- While frames are to come, the same setup again is a repeat.
-  pub setup-again : (pending : Bool) → i < frame_count n → setup_fault (unit i pending) store (Setup n number) ≡ Repeat
+  pub setup-again : (pending : Bool) → i < frame_count n → setup_fault (unit i pending) store (announced n number) ≡ Some Repeat
   setup-again pending h = setup_repeats n number (unit i pending) store (rw (ne_eqb i (frame_count n) (omega arith))) refl
 
   -- A frame is taken while one is to come and none is pending.
@@ -102,14 +102,14 @@ module _ (d : Device) (n number i store : ℕ) (buffer : List ℕ) (buffered : �
       rw (next, ne_eqb (length (take buffered buffer)) 0 (omega arith), le-ltb _ _ fits)
 
   -- nack 6 while it is pending,
-  pub take-pending : command_fault (unit i true) store 21 (to_bytes 2 i) ≡ Nack 6 0
+  pub take-pending : command_fault (unit i true) store 21 (to_bytes 2 i) ≡ Some (Nack 6 0)
   take-pending = take_waits (unit i true) store (to_bytes 2 i) (to-length 2 i) (never_idle (eqb i (frame_count n))) refl
 
   -- and nack 3 once it is stored: the transfer is finished, or the number is the one last stored.
-  pub take-stored : i < 65535 → command_fault (unit (i + 1) false) store 21 (to_bytes 2 i) ≡ Nack 3 (cond (eqb (i + 1) (frame_count n)) 2 1)
+  pub take-stored : i < 65535 → command_fault (unit (i + 1) false) store 21 (to_bytes 2 i) ≡ Some (Nack 3 (cond (eqb (i + 1) (frame_count n)) 2 1))
   take-stored small = by (eqb (i + 1) (frame_count n)) refl
     where
-      by : (b : Bool) → eqb (i + 1) (frame_count n) ≡ b → command_fault (unit (i + 1) false) store 21 (to_bytes 2 i) ≡ Nack 3 (cond b 2 1)
+      by : (b : Bool) → eqb (i + 1) (frame_count n) ≡ b → command_fault (unit (i + 1) false) store 21 (to_bytes 2 i) ≡ Some (Nack 3 (cond b 2 1))
       by true last = take-finished (unit (i + 1) false) store refl (to_bytes 2 i) (to-length 2 i) (rw last)
       by false more =
           let same : from_bytes (to_bytes 2 i) ≡ i = from_to_lem 2 i (omega arith) in

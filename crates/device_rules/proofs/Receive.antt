@@ -1,5 +1,6 @@
 -- What becomes of bytes that arrive: which messages are the unit's, what a broadcast does, and when there is silence. Carried by the definitions,
 -- opened at the link and at the destination.
+use Rattle.std.specs.Prelude.{None, Some}
 use Prim.Native.Nat.{ℕ}
 use mathlib.Core.Bool.{false}
 use mathlib.Core.List.{List, []}
@@ -18,7 +19,7 @@ use Rattle.link_rules.proofs.Laws.{within-given}
 use Rattle.device_rules.specs.declared.Addressing.{Addressing}
 use Rattle.device_rules.specs.declared.Addressing.TheVariants.{Own, Broadcast, Other}
 use Rattle.device_rules.specs.declared.Device.{Device}
-use Rattle.device_rules.specs.declared.Fault.TheVariants.{None, Repeat, Nack}
+use Rattle.device_rules.specs.declared.Fault.TheVariants.{Repeat, Nack}
 use Rattle.device_rules.specs.Answers.{after_receive}
 use Rattle.device_rules.specs.Commands.{command_done, after_command}
 use Rattle.device_rules.specs.Faults.{command_fault}
@@ -96,12 +97,12 @@ module _ (d : Device) (store : ℕ) (b : List ℕ) (m : Message) (p : List ℕ) 
     broadcast_done k h = addressed-replied Broadcast broadcast ∙ simp (k, h)
 
     -- with a fault it changes nothing,
-    pub broadcast_nacked : m.kind ≡ Telecommand → (e i : ℕ) → command_fault d store m.id p ≡ Nack e i → receive d store b ≡ silence d
+    pub broadcast_nacked : m.kind ≡ Telecommand → (e i : ℕ) → command_fault d store m.id p ≡ Some (Nack e i) → receive d store b ≡ silence d
     unfolding addressed_reply after_broadcast after_command
     broadcast_nacked k e i h = addressed-replied Broadcast broadcast ∙ simp (k, h)
 
     -- and as a setup that repeats the open job's neither,
-    pub broadcast_repeated : m.kind ≡ Telecommand → command_fault d store m.id p ≡ Repeat → receive d store b ≡ silence d
+    pub broadcast_repeated : m.kind ≡ Telecommand → command_fault d store m.id p ≡ Some Repeat → receive d store b ≡ silence d
     unfolding addressed_reply after_broadcast after_command
     broadcast_repeated k h = addressed-replied Broadcast broadcast ∙ simp (k, h)
 

@@ -1,4 +1,5 @@
 -- What the unit answers to each kind of request: carried by the definitions of the answers, opened.
+use Rattle.std.specs.Prelude.{Some, None}
 use Prim.Native.Nat.{ℕ}
 use mathlib.Core.List.{List, [], ◌∷◌}
 use mathlib.Core.Path.{◌≡◌, refl}
@@ -7,7 +8,6 @@ use borrow.Author.Tests.{eq-eqb, ne_eqb}
 use lib.ListN.{take, drop}
 use Rattle.little_endian_rules.specs.LittleEndian.{from_bytes, to_bytes}
 use Rattle.message_rules.specs.Answer.{about}
-use Rattle.message_rules.specs.declared.ErrorByte.TheVariants.{Told}
 use Rattle.message_rules.specs.declared.Kind.{Kind}
 use Rattle.message_rules.specs.declared.Kind.TheVariants.{Telecommand, TelecommandAck, TelecommandNack, TelemetryRequest, TelemetryResponse, TelemetryNack, Event}
 use Rattle.message_rules.specs.declared.Message.{Message}
@@ -18,7 +18,7 @@ use Rattle.file_rules.proofs.Checksum.{checksum_below}
 use Rattle.file_rules.proofs.CheckValue.{empty_checksum}
 use Rattle.device_rules.specs.Device.{buffered_frame}
 use Rattle.device_rules.specs.declared.Device.{Device}
-use Rattle.device_rules.specs.declared.Fault.TheVariants.{None, Repeat, Nack}
+use Rattle.device_rules.specs.declared.Fault.TheVariants.{Repeat, Nack}
 use Rattle.device_rules.specs.declared.Transfer.{Transfer}
 use Rattle.device_rules.specs.Commands.{command_done, after_command}
 use Rattle.device_rules.specs.Faults.{command_fault}
@@ -27,7 +27,7 @@ use Rattle.device_rules.specs.Receive.{answers, answer_source, answer_to, info_b
 -- An answer to a message, with an error byte and an index.
 abbrev pub answer_of : Link → ℕ → Message → Kind → ℕ → ℕ → Message
 answer_of l own m k e i =
-    record { kind = k; id = m.id; source = answer_source l own m; destination = m.source; error = Told e; index = i }
+    record { kind = k; id = m.id; source = answer_source l own m; destination = m.source; error = Some e; index = i }
 
 -- "Kinds other than tc and tlmreq get no answer."
 pub others_silent : (k : Kind) (d : Device) (store : ℕ) (m : Message) (p : List ℕ) → (k ≡ Telecommand → ⊥) → (k ≡ TelemetryRequest → ⊥) → kind_reply k d store m p ≡ silence d
@@ -60,13 +60,13 @@ module _ (d : Device) (m : Message) where
   command_acked store p h = rw h
 
   -- "A setup that repeats the open job's number and size is acked and changes nothing."
-  pub repeat_acked : (store : ℕ) (p : List ℕ) → command_fault d store m.id p ≡ Repeat
+  pub repeat_acked : (store : ℕ) (p : List ℕ) → command_fault d store m.id p ≡ Some Repeat
       → telecommand_reply d store m p ≡ about (answers d) (link_write d.link (answer TelecommandAck 0 0) [])
   unfolding command_reply after_command command_answer answer_to
   repeat_acked store p h = rw h
 
   -- A nack tells error byte and index of the fault, and "a nack changes nothing".
-  pub command-nacked : (store : ℕ) (p : List ℕ) (e i : ℕ) → command_fault d store m.id p ≡ Nack e i
+  pub command-nacked : (store : ℕ) (p : List ℕ) (e i : ℕ) → command_fault d store m.id p ≡ Some (Nack e i)
       → telecommand_reply d store m p ≡ about (answers d) (link_write d.link (answer TelecommandNack e i) [])
   unfolding command_reply after_command command_answer answer_to
   command-nacked store p e i h = rw h

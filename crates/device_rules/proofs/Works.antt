@@ -1,5 +1,7 @@
 -- The work step: that a pending frame is stored, by the two tests and the seam of the store; then what is told of a step, and what unit
 -- and store are then, in each case.
+use Rattle.message_rules.specs.declared.Refusal.{Refusal}
+use Rattle.std.specs.Prelude.{None, Some, Err, Ok, Result}
 use Prim.Native.Nat.{ℕ, ◌+◌, ◌%◌, ◌≤◌}
 use mathlib.Core.Bool.{true, false}
 use mathlib.Core.List.{List, [], ◌++◌, append_assoc}
@@ -8,15 +10,11 @@ use native.Mathlib.Nat.{add-zero}
 use native.Mathlib.Omega.{arith}
 use borrow.Author.Tests.{leb-true, le-leb}
 use lib.Dec.{leb}
-use lib.ListN.{length, take, drop, replicate, length-append, length-drop, take-append-drop}
-use lib.Seq.{length-take-le, take-append_seam, drop-append_seam, drop-drop}
-use Rattle.message_rules.specs.Answer.{refused, given, require, after, within, output_after, written, value_result}
+use lib.ListN.{length, take, drop, replicate, length-append, take-append-drop}
+use lib.Seq.{length-take-le, take-append_seam, drop-append_seam}
+use Rattle.message_rules.specs.Answer.{refused, given, require, after, value_result}
 use Rattle.message_rules.specs.declared.Refusal.TheVariants.{OutputTooShort}
-use Rattle.message_rules.specs.declared.Verdict.{Verdict}
-use Rattle.message_rules.specs.declared.Verdict.TheVariants.{Passed, Refused}
-use Rattle.message_rules.proofs.Answers.{long_enough}
 use Rattle.message_rules.proofs.Checks.{both_true}
-use Rattle.file_rules.specs.declared.Job.TheVariants.{None, Number}
 use Rattle.device_rules.specs.Device.{buffered_frame}
 use Rattle.device_rules.specs.Work.{is_last_frame, frame_stored, finished_job, unit_stored, has_room, work, without_bytes, after_work, store_after}
 use Rattle.device_rules.specs.declared.Device.{Device}
@@ -49,7 +47,7 @@ frame_stored_lem d s pending long fits =
 
 -- Document 02, ticket 5: "Storing the last frame makes the open job the last finished one, and none is open then."
 module _ (d : Device) where
-  pub last-finishes : (n : ℕ) → d.transfer.job ≡ Number n → is_last_frame d.transfer ≡ true → ((unit_stored d).finished ≡ Number n) × ((unit_stored d).transfer.job ≡ None)
+  pub last-finishes : (n : ℕ) → d.transfer.job ≡ Some n → is_last_frame d.transfer ≡ true → ((unit_stored d).finished ≡ Some n) × ((unit_stored d).transfer.job ≡ None)
   unfolding unit_stored frame_stored finished_job
   last-finishes n job last = rw (last, job) (refl, refl)
 
@@ -58,9 +56,8 @@ module _ (d : Device) where
   unfolding unit_stored frame_stored
   earlier_keeps more = rw more (refl, refl)
 
-abbrev Gives : Device → List ℕ → Verdict → Device → List ℕ → Type 0
-Gives d s v d' s' =
-    (value_result v d' ≡ without_bytes (work d (length s))) × ((d' ≡ after_work d (work d (length s))) × (s' ≡ store_after d (work d (length s)) s))
+abbrev Gives : Device → List ℕ → Result Device Refusal → List ℕ → Type 0
+Gives d s r s' = (value_result r ≡ without_bytes (work d (length s))) × (s' ≡ store_after d (work d (length s)) s)
 
 -- The step by its two tests.
 module _ (d : Device) (n : ℕ) where
@@ -77,13 +74,13 @@ module _ (d : Device) (n : ℕ) where
   stores h k = rw (k, h)
 
 module _ (d : Device) (s : List ℕ) where
-  pub idle_gives : d.transfer.pending ≡ false → Gives d s Passed d s
-  unfolding value_result without_bytes after_work store_after
-  idle_gives h = rw (rests d (length s) h, add-zero) (refl, (refl, sym (take-append-drop d.transfer.stored s)))
+  pub idle_gives : d.transfer.pending ≡ false → Gives d s (Ok d) s
+  unfolding value_result without_bytes store_after
+  idle_gives h = rw (rests d (length s) h, add-zero) (refl, sym (take-append-drop d.transfer.stored s))
 
-  pub short_gives : d.transfer.pending ≡ true → has_room d.transfer (length s) ≡ false → Gives d s (Refused OutputTooShort) d s
-  unfolding value_result without_bytes after_work store_after
-  short_gives h k = rw (short d (length s) h k) (refl, (refl, refl))
+  pub short_gives : d.transfer.pending ≡ true → has_room d.transfer (length s) ≡ false → Gives d s (Err OutputTooShort) s
+  unfolding value_result without_bytes store_after
+  short_gives h k = rw (short d (length s) h k) (refl, refl)
 
   pub room : has_room d.transfer (length s) ≡ true → (d.transfer.size ≤ length s) × (d.transfer.stored + length (buffered_frame d.transfer) ≤ d.transfer.size)
   unfolding has_room
@@ -93,11 +90,7 @@ module _ (d : Device) (s : List ℕ) where
       (leb-true _ _ b.0, leb-true _ _ b.1)
 
   -- A frame that goes after what is stored.
-  pub stored_gives : (part : List ℕ) → d.transfer.pending ≡ true → has_room d.transfer (length s) ≡ true
-      → part ≡ output_after (within (drop d.transfer.stored s) (written (buffered_frame d.transfer))) (drop d.transfer.stored s)
-      → Gives d s Passed (unit_stored d) (take d.transfer.stored s ++ part)
-  unfolding value_result without_bytes after_work store_after output_after unit_stored
-  stored_gives part h k left =
-      let t = d.transfer in
-      let fits : length (buffered_frame t) ≤ length (drop t.stored s) = rw length-drop (omega (arith, room k)) in
-      rw (stores d (length s) h k, left, long_enough (drop t.stored s) (tt {0}) (buffered_frame t) fits, drop-drop) (refl, (refl, refl))
+  pub stored_gives : d.transfer.pending ≡ true → has_room d.transfer (length s) ≡ true
+      → Gives d s (Ok (unit_stored d)) (take d.transfer.stored s ++ (buffered_frame d.transfer ++ drop (d.transfer.stored + length (buffered_frame d.transfer)) s))
+  unfolding value_result without_bytes store_after
+  stored_gives h k = rw (stores d (length s) h k) (refl, refl)

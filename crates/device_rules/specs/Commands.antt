@@ -1,15 +1,13 @@
 -- What a command does (document 01, "The unit").
-use Rattle.std.specs.Prelude.{ℕ, true, false, cond, List, ◌++◌, eqb, length, drop}
+use Rattle.file_rules.specs.declared.Announcement.{Announcement}
+use Rattle.std.specs.Prelude.{ℕ, true, false, cond, List, ◌++◌, eqb, length, drop, Some, None, Option}
 use Rattle.file_rules.specs.Setup.{setup_read}
-use Rattle.file_rules.specs.declared.Job.TheVariants.{Number}
-use Rattle.file_rules.specs.declared.SetupAnswer.{SetupAnswer}
-use Rattle.file_rules.specs.declared.SetupAnswer.TheVariants.{Setup, WrongLength}
 use Rattle.device_rules.specs.Device.{empty_buffer, no_transfer, with_transfer}
 use Rattle.device_rules.specs.declared.Device.{Device}
 use Rattle.device_rules.specs.declared.Transfer.{Transfer}
 use Rattle.device_rules.specs.declared.Phase.TheVariants.{Open}
 use Rattle.device_rules.specs.declared.Fault.{Fault}
-use Rattle.device_rules.specs.declared.Fault.TheVariants.{None, Repeat, Nack}
+use Rattle.device_rules.specs.declared.Fault.TheVariants.{Repeat, Nack}
 
 -- "Setup opens, sets number 0xFFFF and empties the buffer; nothing is stored yet." Its job is then the open one.
 unfoldable pub new_transfer : ℕ → ℕ → Transfer
@@ -22,13 +20,13 @@ new_transfer size number =
       pending = false;
       size = size;
       stored = 0;
-      job = Number number;
+      job = Some number;
     }
 
 -- A payload of another length has a fault, and opens nothing.
-unfoldable pub setup_done : Transfer → SetupAnswer → Transfer
-setup_done t (Setup size number) = new_transfer size number
-setup_done t WrongLength = t
+unfoldable pub setup_done : Transfer → Option Announcement → Transfer
+setup_done t (Some s) = new_transfer s.size s.number
+setup_done t None = t
 
 -- "Take frame makes it pending."
 unfoldable pub take_done : Transfer → Transfer
@@ -73,7 +71,7 @@ command_done d id p = with_transfer d (transfer_done d.transfer id p)
 
 -- The unit after a command with this fault or none. "A nack changes nothing." "A setup that repeats the open job's number and size is acked and
 -- changes nothing" (document 02, ticket 5).
-unfoldable pub after_command : Device → ℕ → List ℕ → Fault → Device
+unfoldable pub after_command : Device → ℕ → List ℕ → Option Fault → Device
 after_command d id p None = command_done d id p
-after_command d id p Repeat = d
-after_command d id p (Nack e i) = d
+after_command d id p (Some Repeat) = d
+after_command d id p (Some (Nack e i)) = d

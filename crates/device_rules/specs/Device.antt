@@ -1,7 +1,6 @@
 -- The unit's state (document 01, "The unit").
-use Rattle.std.specs.Prelude.{ℕ, Bool, true, false, cond, List, eqb, take, replicate}
+use Rattle.std.specs.Prelude.{ℕ, Bool, true, false, cond, List, eqb, take, replicate, None}
 use Rattle.message_rules.specs.Answer.{Answer, refused, given}
-use Rattle.file_rules.specs.declared.Job.TheVariants.{None}
 use Rattle.link_rules.specs.declared.Link.{Link}
 use Rattle.device_rules.specs.declared.Device.{Device}
 use Rattle.device_rules.specs.declared.Transfer.{Transfer}

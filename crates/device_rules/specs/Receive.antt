@@ -1,7 +1,6 @@
 -- What the unit does with bytes that arrive (document 01, "The unit").
-use Rattle.std.specs.Prelude.{ℕ, cond, List, [], ◌∷◌, ◌++◌, eqb, length}
+use Rattle.std.specs.Prelude.{ℕ, cond, List, [], ◌∷◌, ◌++◌, eqb, length, Some, None, Option}
 use Rattle.message_rules.specs.Answer.{Answer, refused, given, about}
-use Rattle.message_rules.specs.declared.ErrorByte.TheVariants.{Told}
 use Rattle.message_rules.specs.declared.Kind.{Kind}
 use Rattle.message_rules.specs.declared.Kind.TheVariants as KindOf
 use Rattle.message_rules.specs.Kinds.{is_telecommand}
@@ -18,7 +17,7 @@ use Rattle.device_rules.specs.declared.Device.{Device}
 use Rattle.device_rules.specs.declared.Transfer.{Transfer}
 use Rattle.device_rules.specs.Faults.{command_fault}
 use Rattle.device_rules.specs.declared.Fault.{Fault}
-use Rattle.device_rules.specs.declared.Fault.TheVariants.{None, Repeat, Nack}
+use Rattle.device_rules.specs.declared.Fault.TheVariants.{Repeat, Nack}
 use Rattle.device_rules.specs.Commands.{after_command}
 
 -- The unit after a call that was not refused: it answers, or it is silent, and either way it may have changed.
@@ -45,7 +44,7 @@ answer_source Csp own m = m.destination
 -- An answer to a request: of a kind, with an error byte and an index.
 unfoldable pub answer_to : Device → Message → Kind → ℕ → ℕ → Message
 answer_to d m k e i =
-    record { kind = k; id = m.id; source = answer_source d.link d.own m; destination = m.source; error = Told e; index = i }
+    record { kind = k; id = m.id; source = answer_source d.link d.own m; destination = m.source; error = Some e; index = i }
 
 -- "Frame info answers seven bytes: number, buffered size, checksum, each 2 bytes, then flags: bit 0 set when finished." The checksum "replaces the
 -- sum in frame info" (document 02, ticket 6).
@@ -58,13 +57,13 @@ abbrev pub silence : Device → Answer Reply (List ℕ)
 silence d = given (silent d) []
 
 -- A nack with the fault, or an ack, which a repeated setup gets too.
-unfoldable pub command_answer : Device → Message → Fault → Message
+unfoldable pub command_answer : Device → Message → Option Fault → Message
 command_answer d m None = answer_to d m KindOf.TelecommandAck 0 0
-command_answer d m Repeat = answer_to d m KindOf.TelecommandAck 0 0
-command_answer d m (Nack e i) = answer_to d m KindOf.TelecommandNack e i
+command_answer d m (Some Repeat) = answer_to d m KindOf.TelecommandAck 0 0
+command_answer d m (Some (Nack e i)) = answer_to d m KindOf.TelecommandNack e i
 
 -- The answer to a command, with the unit as the command leaves it.
-unfoldable pub command_reply : Device → Message → List ℕ → Fault → Answer Reply (List ℕ)
+unfoldable pub command_reply : Device → Message → List ℕ → Option Fault → Answer Reply (List ℕ)
 command_reply d m p f = about (answers (after_command d m.id p f)) (link_write d.link (command_answer d m f) [])
 
 -- What a telecommand comes to, while a store of so many bytes is lent: its fault is the table's.

@@ -1,8 +1,6 @@
 -- The work step (document 01, "The unit"): the unit afterwards, and the bytes that go after what is stored.
-use Rattle.std.specs.Prelude.{ℕ, ◌+◌, ◌%◌, Bool, false, cond, ◌&&◌, List, [], ◌++◌, leb, eqb, length, take, drop}
+use Rattle.std.specs.Prelude.{ℕ, ◌+◌, ◌%◌, Bool, false, cond, ◌&&◌, List, [], ◌++◌, leb, eqb, length, take, drop, None, Option, Some}
 use Rattle.message_rules.specs.Answer.{Answer, refused, given, passed, require, after}
-use Rattle.file_rules.specs.declared.Job.{Job}
-use Rattle.file_rules.specs.declared.Job.TheVariants as JobOf
 use Rattle.device_rules.specs.Device.{buffered_frame, empty_buffer}
 use Rattle.device_rules.specs.declared.Device.{Device}
 use Rattle.device_rules.specs.declared.Transfer.{Transfer}
@@ -24,13 +22,13 @@ frame_stored t =
       pending = false;
       size = t.size;
       stored = t.stored + length (buffered_frame t);
-      job = cond (is_last_frame t) JobOf.None t.job;
+      job = cond (is_last_frame t) None t.job;
     }
 
 -- "Storing the last frame makes the open job the last finished one" (document 02, ticket 5). With none open the last finished one stays.
-unfoldable pub finished_job : Job → Job → Job
-finished_job JobOf.None last = last
-finished_job (JobOf.Number n) last = JobOf.Number n
+unfoldable pub finished_job : Option ℕ → Option ℕ → Option ℕ
+finished_job None last = last
+finished_job (Some n) last = Some n
 
 -- The unit once its pending frame is stored.
 unfoldable pub unit_stored : Device → Device

@@ -5,12 +5,11 @@
 // it does when it is), `Work` (the work step), `Receive` and `Answers` (bytes that arrive). Demand 3 is proved of these; the code stands above.
 #![tactic(auto)]
 
-use file_rules::Job;
 use link_rules::Link;
-use message_rules::{Refusal, Verdict};
+use message_rules::Refusal;
 
 // Document 01's "idle, open or finished".
-#[derive(Clone, Copy)]
+#[derive(Clone, Copy, PartialEq, Eq)]
 pub enum Phase {
     Idle,
     Open,
@@ -33,7 +32,7 @@ pub struct Transfer {
     // How many bytes are counted as stored.
     pub stored: u32,
     // Document 02's open job.
-    pub job: Job,
+    pub job: Option<u32>,
 }
 
 // Document 01's unit. It is called a device, since `Unit` is a type of the logic.
@@ -44,7 +43,7 @@ pub struct Device {
     pub own: u8,
     pub transfer: Transfer,
     // Document 02's last finished job. It is no transfer's: setup and cancel leave it as it is.
-    pub finished: Job,
+    pub finished: Option<u32>,
 }
 
 // How a message is addressed: to this unit, to every unit at once (document 02's broadcast), or to another one.
@@ -55,34 +54,18 @@ pub enum Addressing {
     Other,
 }
 
-// The answer of making a unit and of the work step. A refused work step leaves unit and store as they came.
-#[derive(Clone, Copy)]
-pub struct UnitAnswer {
-    pub device: Device,
-    pub verdict: Verdict,
-}
-
-// What keeps a command from being carried out: nothing; that it is a setup which repeats the open job's, and is acked; or a reason, with the error
-// byte and the index of its nack.
+// What keeps a command from being carried out: that it is a setup which repeats the open job's, and is acked; or a reason, with the error byte and
+// the index of its nack.
 #[derive(Clone, Copy)]
 pub enum Fault {
-    None,
     Repeat,
     Nack(u8, u8),
 }
 
-// What receiving bytes comes to: an answer of this length lies at the start of the lent output, or there is none. A unit that is silent may
-// have changed.
-#[derive(Clone, Copy)]
-pub enum Outcome {
-    Answer(usize),
-    Silent,
-    Refused(Refusal),
-}
-
-// The answer of receiving bytes. A refusal leaves unit and output as they came.
+// What receiving bytes comes to: the unit afterwards, and the length of its answer, which lies at the start of the lent output, or none. A unit that
+// is silent may have changed. A refusal leaves unit and output as they came.
 #[derive(Clone, Copy)]
 pub struct Received {
     pub device: Device,
-    pub outcome: Outcome,
+    pub outcome: Result<Option<usize>, Refusal>,
 }

@@ -1,27 +1,25 @@
 // A unit at first, without a transfer, and the frame that a transfer's buffer holds.
 #![tactic(auto)]
 
-ghost use Rattle.std.specs.Prelude.{◌≡◌, length};
+ghost use Rattle.std.specs.Prelude.{◌≡◌, ◌≤◌, length};
 ghost use Rattle.message_rules.specs.Answer.{value_result};
-ghost use Rattle.device_rules.specs.Device.{buffered_frame, no_transfer, new_device, make};
+ghost use Rattle.device_rules.specs.Device.{buffered_frame, no_transfer, make};
 
-use device_rules::{Device, Phase, Transfer, UnitAnswer};
-use file_rules::Job;
+use device_rules::{Device, Phase, Transfer};
 use link_rules::Link;
-use message_rules::{Refusal, Verdict};
+use message_rules::Refusal;
 
-// How many bytes the frame in the buffer has.
+// How many bytes the frame in the buffer has: no more than the buffer.
+#[tactic(auto, unfolding(device_rules::specs::Device::buffered_frame))]
 pub fn buffered_length(transfer: Transfer) -> usize
-    ensures { result ≡ length (buffered_frame transfer) }
+    ensures length_value { result ≡ length (buffered_frame transfer) }
+    ensures at_most { result ≤ 256 }
 {
-    let buffered = transfer.buffered as usize;
-    if 256 < buffered {
-        return 256;
-    }
-    buffered
+    (transfer.buffered as usize).min(256)
 }
 
 // No transfer: so is a unit at first, and after a cancel.
+#[tactic(auto, unfolding(device_rules::specs::Device::no_transfer))]
 pub fn no_transfer() -> Transfer
     ensures { result ≡ no_transfer }
 {
@@ -33,30 +31,22 @@ pub fn no_transfer() -> Transfer
         pending: false,
         size: 0,
         stored: 0,
-        job: Job::None,
+        job: None,
     }
 }
 
-// A unit at first, with its own address. Where that is 0 it is refused, and the unit beside the refusal is of no use.
-pub fn make(link: Link, own: u8) -> UnitAnswer
-    ensures device_value { value_result result.verdict result.device ≡ make link own }
-    ensures device_value_2 { result.device ≡ new_device link own }
+// A unit at first, with its own address, which is not 0.
+#[tactic(auto, unfolding(message_rules::specs::Answer::value_result, device_rules::specs::Device::make, device_rules::specs::Device::new_device))]
+pub fn make(link: Link, own: u8) -> Result<Device, Refusal>
+    ensures { value_result result ≡ make link own }
 {
-    let transfer = no_transfer();
-    let device = Device {
+    if own == 0 {
+        return Err(Refusal::IllegalValue);
+    }
+    Ok(Device {
         link,
         own,
-        transfer,
-        finished: Job::None,
-    };
-    if own == 0 {
-        return UnitAnswer {
-            device,
-            verdict: Verdict::Refused(Refusal::IllegalValue),
-        };
-    }
-    UnitAnswer {
-        device,
-        verdict: Verdict::Passed,
-    }
+        transfer: no_transfer(),
+        finished: None,
+    })
 }

@@ -5,7 +5,6 @@ ghost use Rattle.std.specs.Prelude.{◌≡◌, length};
 
 use crate::print;
 use event_rules::{LONGEST_LOG, RECORD_SIZE};
-use message_rules::Verdict;
 use std::io;
 use std::io::{Print, Read};
 
@@ -20,11 +19,9 @@ pub(crate) fn print_report(rt: &impl Print, input: &mut impl Read) -> io::Result
         return print::unread(rt);
     }
     let answer = event_report::report(&bytes[..n]);
-    let counts = answer.counts;
-    let verdict = answer.verdict;
-    match verdict {
-        Verdict::Refused(refusal) => print::refused(rt, refusal),
-        Verdict::Passed => print::report(rt, n / RECORD_SIZE, counts),
+    match answer.verdict {
+        Ok(()) => print::report(rt, n / RECORD_SIZE, &answer.counts),
+        Err(refusal) => print::refused(rt, refusal),
     }
 }
 

@@ -37,11 +37,9 @@ pub fn checksum(bytes: &[u8]) -> u16
     // Inside the loop the table would be copied at every turn.
     let table = TABLE;
     let mut register: u16 = 0xFFFF;
-    let mut i = 0;
-    while i < bytes.len() {
-        let place = (register >> 8) ^ (bytes[i] as u16);
+    for byte in bytes {
+        let place = (register >> 8) ^ u16::from(*byte);
         register = (register << 8) ^ table[place as usize];
-        i += 1;
     }
     register
 }

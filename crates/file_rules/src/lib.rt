@@ -6,16 +6,10 @@
 // How many bytes a setup's payload has: the size and the job number.
 pub const SETUP_LENGTH: usize = 8;
 
-// Document 02's job, by its number, or none. None is a case of its own: 0 is a number as any other.
+// What a setup's payload says: the file's size and the number of the job, document 02's. A job is an `Option<u32>`: none is a case of its own,
+// and 0 is a number as any other.
 #[derive(Clone, Copy)]
-pub enum Job {
-    None,
-    Number(u32),
-}
-
-// What a setup's payload says: the file's size and the job's number, unless it has another length than a setup's.
-#[derive(Clone, Copy)]
-pub enum SetupAnswer {
-    Setup(u32, u32),
-    WrongLength,
+pub struct Announcement {
+    pub size: u32,
+    pub number: u32,
 }

@@ -4,28 +4,27 @@
 ghost use Rattle.std.specs.Prelude.{◌≡◌};
 ghost use Rattle.file_rules.specs.Setup.{setup_read, setup_bytes};
 
-use file_rules::{SETUP_LENGTH, SetupAnswer};
+use file_rules::{Announcement, SETUP_LENGTH};
 
 // What a setup's payload says.
-pub fn read(payload: &[u8]) -> SetupAnswer
+pub fn read(payload: &[u8]) -> Option<Announcement>
     ensures { result ≡ setup_read payload.now }
 {
     if payload.len() != SETUP_LENGTH {
-        return SetupAnswer::WrongLength;
+        return None;
     }
-    SetupAnswer::Setup(
-        little_endian::u32_from_bytes(payload[0], payload[1], payload[2], payload[3]),
-        little_endian::u32_from_bytes(payload[4], payload[5], payload[6], payload[7]),
-    )
+    Some(Announcement {
+        size: little_endian::u32_from_bytes(payload[0], payload[1], payload[2], payload[3]),
+        number: little_endian::u32_from_bytes(payload[4], payload[5], payload[6], payload[7]),
+    })
 }
 
 // The payload of a setup for a file of this size and a job of this number.
+#[tactic(auto, unfolding(file_rules::specs::Setup::setup_bytes, little_endian_rules::specs::LittleEndian::to_bytes))]
 pub fn write(size: u32, number: u32) -> [u8; SETUP_LENGTH]
     ensures { result ≡ setup_bytes size number }
 {
-    let first = little_endian::u32_to_bytes(size);
-    let second = little_endian::u32_to_bytes(number);
-    [
-        first[0], first[1], first[2], first[3], second[0], second[1], second[2], second[3],
-    ]
+    let [s0, s1, s2, s3] = little_endian::u32_to_bytes(size);
+    let [n0, n1, n2, n3] = little_endian::u32_to_bytes(number);
+    [s0, s1, s2, s3, n0, n1, n2, n3]
 }

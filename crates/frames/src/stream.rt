@@ -5,7 +5,6 @@ ghost use Rattle.std.specs.Prelude.{◌≤◌, ◌≡◌, length, take};
 ghost use Rattle.std.specs.Counts.{IsPrefixLen};
 ghost use Rattle.listing_rules.specs.Listing.{listing, longest};
 
-use message_rules::WriteAnswer;
 use std::io;
 use std::io::{Print, Read};
 
@@ -30,10 +29,7 @@ fn listed(bytes: &[u8], out: &mut [u8]) -> usize
     ensures prefix_len { IsPrefixLen result out.new }
     ensures out_after { take result out.new ≡ listing bytes.now }
 {
-    match listing_writer::list(bytes, out) {
-        WriteAnswer::Length(n) => n,
-        WriteAnswer::Refused(_) => 0,
-    }
+    listing_writer::list(bytes, out).unwrap()
 }
 
 fn input_space() -> [u8; INPUT]

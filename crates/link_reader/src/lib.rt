@@ -6,11 +6,12 @@ ghost use Rattle.message_rules.specs.Answer.{read_result, within, counted, outpu
 ghost use Rattle.link_rules.specs.Link.{link_read};
 
 use link_rules::Link;
-use message_rules::ReadAnswer;
+use message_rules::{Message, Refusal};
 use serial_rules::SerialLink;
 
 // Reads a message; its payload goes to the start of out.
-pub fn read(link: Link, bytes: &[u8], out: &mut [u8]) -> ReadAnswer
+#[tactic(auto, unfolding(link_rules::specs::Link::link_read))]
+pub fn read(link: Link, bytes: &[u8], out: &mut [u8]) -> Result<(Message, usize), Refusal>
     ensures result_value { read_result result ≡ counted (within out.old (link_read link bytes.now)) }
     ensures out_after { out.new ≡ output_after (within out.old (link_read link bytes.now)) out.old }
 {

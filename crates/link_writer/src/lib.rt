@@ -6,11 +6,12 @@ ghost use Rattle.message_rules.specs.Answer.{write_result, within, counted, outp
 ghost use Rattle.link_rules.specs.Link.{link_write};
 
 use link_rules::Link;
-use message_rules::{Message, WriteAnswer};
+use message_rules::{Message, Refusal};
 use serial_rules::SerialLink;
 
 // Writes a message with its payload to the start of out.
-pub fn write(link: Link, message: Message, payload: &[u8], out: &mut [u8]) -> WriteAnswer
+#[tactic(auto, unfolding(link_rules::specs::Link::link_write))]
+pub fn write(link: Link, message: Message, payload: &[u8], out: &mut [u8]) -> Result<usize, Refusal>
     ensures result_value { write_result result ≡ counted (within out.old (link_write link message payload.now)) }
     ensures out_after { out.new ≡ output_after (within out.old (link_write link message payload.now)) out.old }
 {

@@ -1,5 +1,6 @@
 -- How long a listing can be: a line is at most ten times as long as its frame, since a refused frame of two bytes has a line of at most
 -- twenty, and only a complete one, of four bytes or more, has a longer one.
+use Rattle.std.specs.Prelude.{None, Some}
 use Prim.Native.Nat.{ℕ, zero, suc, ◌+◌, ◌*◌, ◌≤◌, ◌<◌}
 use mathlib.Core.Bool.{Bool, true, false, cond}
 use mathlib.Core.List.{List, [], ◌∷◌}
@@ -24,7 +25,6 @@ use Rattle.serial_rules.specs.Frames.{frame_read}
 use Rattle.serial_rules.specs.declared.SerialLink.TheVariants.{Uart}
 use Rattle.listing_rules.specs.Lines.{kind_text, field_text, id_of, code_of, line, spaced, line_text}
 use Rattle.listing_rules.specs.Listing.{Found, no_frame, frame_at, hunt, frame_length, said, frame_line, framed, lines, listing, longest}
-use Rattle.listing_rules.specs.declared.Field.TheVariants.{Number, Dash}
 use Rattle.listing_rules.proofs.Limit.{listed-within, listed_past}
 use Rattle.listing_rules.proofs.Sizes.{line-size}
 use Rattle.listing_rules.proofs.Reading.{read-most, read_low}
@@ -67,7 +67,7 @@ kind_short KindOf.TelemetryNack = omega arith
 kind_short KindOf.Event = omega arith
 
 -- A field that is a number below a thousand or none.
-field_short : (t : Bool) (n : ℕ) → n < 1000 → (length (field_text (cond t (Number n) Dash)) ≤ 3) × (length (field_text (cond t Dash (Number n))) ≤ 3)
+field_short : (t : Bool) (n : ℕ) → n < 1000 → (length (field_text (cond t (Some n) None)) ≤ 3) × (length (field_text (cond t None (Some n))) ≤ 3)
 field_short true n h = (decimal-length 2 n h, omega arith)
 field_short false n h = (omega arith, decimal-length 2 n h)
 

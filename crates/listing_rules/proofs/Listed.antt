@@ -1,5 +1,6 @@
 -- What a line says is what the reader says of that frame alone: a complete frame is found whole, whatever follows it, since a doubled body
 -- scans to its own tail.
+use Rattle.std.specs.Prelude.{None, Some}
 use Prim.Native.Nat.{ℕ, ◌+◌, ◌≤◌}
 use mathlib.Core.Bool.{false, true}
 use mathlib.Core.List.{List, [], ◌∷◌, ◌++◌, append_assoc, append-nil}
@@ -23,7 +24,6 @@ use Rattle.serial_rules.proofs.Tables.{row_of-start, written_row}
 use Rattle.serial_rules.specs.Frames.{start_byte, start_row, row_of, front_fields, source_legal, frame_read, serial_carries, frame_bytes, checked_frame, frame_write}
 use Rattle.serial_rules.specs.declared.StartRow.{StartRow}
 use Rattle.serial_rules.specs.declared.SerialLink.TheVariants.{Uart}
-use Rattle.serial_rules.specs.declared.RowLookup.TheVariants.{Known, Unknown}
 use Rattle.listing_rules.specs.Lines.{line, line_text}
 use Rattle.listing_rules.specs.Listing.{frame_length, said, frame_line, lines}
 use Rattle.listing_rules.proofs.Walks.{lines-pair, lines_end, lines-frame, stops}
@@ -32,7 +32,7 @@ use Rattle.listing_rules.proofs.Walks.{lines-pair, lines_end, lines-frame, stops
 abbrev pub complete : ℕ → List ℕ → List ℕ
 complete start body = 0x1F ∷ start ∷ (doubled body ++ (0x1F ∷ 0xFF ∷ []))
 
-module _ (start : ℕ) (row : StartRow) (known : start_row Uart start ≡ Known row) (body later : List ℕ) where
+module _ (start : ℕ) (row : StartRow) (known : start_row Uart start ≡ Some row) (body later : List ℕ) where
   scanned : frame_scan (complete start body ++ later) ≡ record { stop = Ended; consumed = length (doubled body) + 2; body = body }
   scanned = rw append_assoc (scan-doubled body later)
 
@@ -67,7 +67,7 @@ written_listed m p b later n at e h =
 
 -- "An ESC and start byte break the frame off (3) and begin a new one there; ESC with another wrong byte gives 3 and the hunt goes on after
 -- the pair."
-module _ (start : ℕ) (row : StartRow) (known : start_row Uart start ≡ Known row) (body : List ℕ) (x : ℕ) (later : List ℕ) (n at : ℕ) where
+module _ (start : ℕ) (row : StartRow) (known : start_row Uart start ≡ Some row) (body : List ℕ) (x : ℕ) (later : List ℕ) (n at : ℕ) where
   module _ (no-esc : eqb x 0x1F ≡ false) (no-tail : eqb x 0xFF ≡ false) (long : length (0x1F ∷ start ∷ (doubled body ++ (0x1F ∷ x ∷ later))) ≤ n) where
     broken : lines n at (0x1F ∷ start ∷ (doubled body ++ (0x1F ∷ x ∷ later))) ≡ line_text (line at (refused 3)) ++ lines n (at + (2 + length (doubled body))) (0x1F ∷ x ∷ later)
     unfolding said counted scan escaped
@@ -76,17 +76,17 @@ module _ (start : ℕ) (row : StartRow) (known : start_row Uart start ≡ Known 
     left : length (0x1F ∷ x ∷ later) ≤ n
     left = omega (arith, length-append (doubled body) (0x1F ∷ x ∷ later))
 
-    pub broken_by_start : (row₂ : StartRow) → start_row Uart x ≡ Known row₂
+    pub broken_by_start : (row₂ : StartRow) → start_row Uart x ≡ Some row₂
         → let f : List ℕ = 0x1F ∷ x ∷ later in
         let there = at + (2 + length (doubled body)) in
         lines n at (0x1F ∷ start ∷ (doubled body ++ f)) ≡ line_text (line at (refused 3)) ++ (frame_line there f ++ lines n (there + frame_length f) (drop (frame_length f) f))
     broken_by_start row₂ e = broken ∙ rw (lines-frame (at + (2 + length (doubled body))) (0x1F ∷ x ∷ later) x later row₂ refl e n left)
 
-    pub broken_by_other : start_row Uart x ≡ Unknown → lines n at (0x1F ∷ start ∷ (doubled body ++ (0x1F ∷ x ∷ later))) ≡ line_text (line at (refused 3)) ++ lines n (at + (2 + length (doubled body)) + 2) later
+    pub broken_by_other : start_row Uart x ≡ None → lines n at (0x1F ∷ start ∷ (doubled body ++ (0x1F ∷ x ∷ later))) ≡ line_text (line at (refused 3)) ++ lines n (at + (2 + length (doubled body)) + 2) later
     broken_by_other e = broken ∙ rw (lines-pair (at + (2 + length (doubled body))) n x later e)
 
 -- "An unfinished last frame gives 1", also with a last ESC.
-module _ (start : ℕ) (row : StartRow) (known : start_row Uart start ≡ Known row) (body : List ℕ) (n at : ℕ) where
+module _ (start : ℕ) (row : StartRow) (known : start_row Uart start ≡ Some row) (body : List ℕ) (n at : ℕ) where
   unfinished : (t : List ℕ) → scan t ≡ stopped Cut 0 → length t ≤ 1 → length (0x1F ∷ start ∷ (doubled body ++ t)) ≤ n → lines n at (0x1F ∷ start ∷ (doubled body ++ t)) ≡ line_text (line at (refused 1))
   unfolding said counted
   unfinished t e short long = stops start row known body t n at Cut e long ∙ rw (lines_end (at + (2 + length (doubled body))) n t short, append-nil)

@@ -1,4 +1,6 @@
 -- What the reader can say of a frame: a message that passed the writer's checks too, by the round trip, or a number below ten.
+use Rattle.message_rules.specs.declared.Refusal.{Refusal}
+use Rattle.std.specs.Prelude.{None, Option, Some, ℕ, Result}
 use Prim.Native.Nat.{ℕ, ◌≤◌, ◌<◌}
 use mathlib.Core.Bool.{Bool, true, false}
 use mathlib.Core.List.{List}
@@ -13,23 +15,16 @@ use Rattle.message_rules.specs.Answer.{Answer, refused, given, Check, passed, fa
 use Rattle.message_rules.specs.Data.{error_number, data_message, data_read}
 use Rattle.message_rules.specs.Checks.{id_legal, payload_legal, error_legal, field_checks, data_checks, writable, write_checks}
 use Rattle.message_rules.specs.Kinds.{inside, id_range, error_range}
-use Rattle.message_rules.specs.declared.ErrorByte.TheVariants.{Told, NotTold}
-use Rattle.message_rules.specs.declared.ErrorByte.{ErrorByte}
 use Rattle.message_rules.specs.declared.Kind.TheVariants as KindOf
 use Rattle.message_rules.specs.declared.Kind.{Kind}
 use Rattle.message_rules.specs.declared.Message.{Message}
-use Rattle.message_rules.specs.declared.ReadAnswer.{ReadAnswer}
 use Rattle.serial_rules.specs.Stuffing.{scan}
 use Rattle.serial_rules.specs.declared.Stop.TheVariants.{Ended, Broken, Cut}
 use Rattle.serial_rules.specs.declared.Stop.{Stop}
 use Rattle.serial_rules.proofs.RoundTrip.{read_writes}
 use Rattle.serial_rules.specs.Frames.{start_row, kind_of, id_field, source_legal, source_checked, kind_read, identified, frame_body, closed, row_read, started, serial_carries, frame_read, frame_write}
-use Rattle.message_rules.specs.declared.KindLookup.TheVariants as KindLookupOf
-use Rattle.message_rules.specs.declared.KindLookup.{KindLookup}
 use Rattle.serial_rules.specs.declared.StartRow.{StartRow}
 use Rattle.serial_rules.specs.declared.SerialLink.TheVariants.{Uart}
-use Rattle.serial_rules.specs.declared.RowLookup.TheVariants as RowLookupOf
-use Rattle.serial_rules.specs.declared.RowLookup.{RowLookup}
 
 module _ (b : List ℕ) where
   pub read_checked : (m : Message) (p : List ℕ) → frame_read Uart b ≡ given m p → write_checks (serial_carries Uart) m (length p) ≡ passed
@@ -58,7 +53,7 @@ module _ (b : List ℕ) where
           omega (arith, payload-most (serial_carries Uart) m' (length p) (read_checked m' p e))
 
   -- What a caller of the reader learns, where it lends that much.
-  pub counted-whole : (out : List ℕ) (r : ReadAnswer) → 256 ≤ length out → read_result r ≡ counted (within out (frame_read Uart b)) → read_result r ≡ counted (frame_read Uart b)
+  pub counted-whole : (out : List ℕ) (r : Result (Message × ℕ) Refusal) → 256 ≤ length out → read_result r ≡ counted (within out (frame_read Uart b)) → read_result r ≡ counted (frame_read Uart b)
   counted-whole out r h says = rw (read-room out h) at says
 
 -- A legal ID and a legal error byte are at most 255, by the kind.
@@ -76,11 +71,11 @@ unfolding id_legal inside
 id-most k id h =
     omega (arith, leb-true id (id_range k).1 (both_true (leb (id_range k).0 id) (leb id (id_range k).1) h).1, ranges k)
 
-error-most : (k : Kind) (e : ErrorByte) → error_legal k e ≡ true → error_number e ≤ 255
+error-most : (k : Kind) (e : Option ℕ) → error_legal k e ≡ true → error_number e ≤ 255
 unfolding error_legal inside
-error-most k (Told e) h =
+error-most k (Some e) h =
     omega (arith, leb-true e (error_range k).1 (both_true (leb (error_range k).0 e) (leb e (error_range k).1) h).1, ranges k)
-error-most k NotTold h = omega arith
+error-most k None h = omega arith
 
 -- The numbers of a line whose frame reads as a message.
 pub read-most : (b : List ℕ) (m : Message) (p : List ℕ) → frame_read Uart b ≡ given m p → (m.id ≤ 255) × (error_number m.error ≤ 255) × (length p ≤ 256)
@@ -122,10 +117,10 @@ low_data : (k : Kind) (id s t : ℕ) (d : List ℕ) → Low (data_read k id s t 
 unfolding data_read data_checks
 low_data k id s t d = low_after _ (given _ _) (low_fields (data_message k id s t d) _) tt
 
-low_identified : (r : StartRow) (k : KindLookup) (d : List ℕ) → Low (identified Uart r k d)
+low_identified : (r : StartRow) (k : Option Kind) (d : List ℕ) → Low (identified Uart r k d)
 unfolding identified kind_read
-low_identified r KindLookupOf.Unknown d = omega arith
-low_identified r (KindLookupOf.Known k) d = low_source_checked _ (low_data k _ _ _ _)
+low_identified r None d = omega arith
+low_identified r (Some k) d = low_source_checked _ (low_data k _ _ _ _)
 
 low_closed : (r : StartRow) (stop : Stop) (n size : ℕ) (d : List ℕ) → Low (closed Uart r stop n size d)
 unfolding closed frame_body
@@ -135,10 +130,10 @@ low_closed r Ended n size d =
     low_after _ (frame_body Uart r d) (low_require _ 4 passed (omega arith) tt)
     (low_after _ _ (low_require _ 6 passed (omega arith) tt) (low_identified r (kind_of r (id_field r d)) d))
 
-low_started : (r : RowLookup) (s : List ℕ) → Low (started Uart r s)
+low_started : (r : Option StartRow) (s : List ℕ) → Low (started Uart r s)
 unfolding started row_read
-low_started RowLookupOf.Unknown s = omega arith
-low_started (RowLookupOf.Known r) s = low_closed r (scan s).stop (scan s).consumed (length s) (scan s).body
+low_started None s = omega arith
+low_started (Some r) s = low_closed r (scan s).stop (scan s).consumed (length s) (scan s).body
 
 low_read : (b : List ℕ) → Low (frame_read Uart b)
 unfolding frame_read

@@ -1,4 +1,5 @@
 -- The two loops of the walk: a hunt keeps the lines that are left, and a frame puts its line in front of them.
+use Rattle.std.specs.Prelude.{None, Some}
 use Prim.Native.Nat.{ℕ, ◌+◌, ◌≤◌, ◌<◌}
 use mathlib.Core.List.{List, ◌++◌}
 use mathlib.Core.Path.{◌≡◌, ap, sym, ◌∙◌}
@@ -11,7 +12,6 @@ use Rattle.serial_rules.specs.declared.Stop.{Stop}
 use Rattle.serial_rules.specs.Frames.{start_row}
 use Rattle.serial_rules.specs.declared.StartRow.{StartRow}
 use Rattle.serial_rules.specs.declared.SerialLink.TheVariants.{Uart}
-use Rattle.serial_rules.specs.declared.RowLookup.TheVariants.{Known, Unknown}
 use Rattle.listing_rules.specs.Listing.{frame_length, frame_line, lines, header, listing, longest}
 use Rattle.listing_rules.proofs.Bound.{frame-inside, lines_short}
 use Rattle.listing_rules.proofs.Limit.{listed-within}
@@ -34,7 +34,7 @@ module _ (b : List ℕ) (from at : ℕ) (h : Hunted b from at) (room : at + 2 �
   pub hunted_byte : (get_or b at 0 ≡ 0x1F → ⊥) → Hunted b from (at + 1)
   hunted_byte ne = (omega arith, omega arith, h.2 ∙ pass_byte b at (length b) (omega arith) ne)
 
-  pub hunted_pair : get_or b at 0 ≡ 0x1F → start_row Uart (get_or b (at + 1) 0) ≡ Unknown → Hunted b from (at + 2)
+  pub hunted_pair : get_or b at 0 ≡ 0x1F → start_row Uart (get_or b (at + 1) 0) ≡ None → Hunted b from (at + 2)
   hunted_pair e q = (omega arith, omega arith, h.2 ∙ pass_pair b at (length b) (omega arith) e q)
 
 -- A hunt that has found a frame.
@@ -43,7 +43,7 @@ pub record Begins (b : List ℕ) (from at : ℕ) : Type 0 where
   pub room : at + 2 ≤ length b
   pub esc : get_or b at 0 ≡ 0x1F
   pub row : StartRow
-  pub known : start_row Uart (get_or b (at + 1) 0) ≡ Known row
+  pub known : start_row Uart (get_or b (at + 1) 0) ≡ Some row
 
 module _ (b : List ℕ) (from at : ℕ) (g : Begins b from at) where
   pub end-inside : at + frame_length (drop at b) ≤ length b

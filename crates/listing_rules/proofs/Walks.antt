@@ -1,5 +1,6 @@
 -- The laws of the walk: what a hunt finds, that as many turns as there are bytes are enough, where a frame without a tail is left, and one
 -- step of the walk at a place of the bytes. Carried by the definitions, which compute at one step, and by induction on turns and bytes.
+use Rattle.std.specs.Prelude.{None, Option, Some}
 use Prim.Native.Nat.{ℕ, zero, suc, ◌+◌, ◌≤◌, ◌<◌}
 use mathlib.Core.Bool.{Bool, true, false}
 use mathlib.Core.List.{List, [], ◌∷◌, ◌++◌}
@@ -18,8 +19,6 @@ use Rattle.serial_rules.specs.declared.Stop.{Stop}
 use Rattle.serial_rules.specs.Frames.{start_row}
 use Rattle.serial_rules.specs.declared.StartRow.{StartRow}
 use Rattle.serial_rules.specs.declared.SerialLink.TheVariants.{Uart}
-use Rattle.serial_rules.specs.declared.RowLookup.TheVariants.{Known, Unknown}
-use Rattle.serial_rules.specs.declared.RowLookup.{RowLookup}
 use Rattle.listing_rules.specs.Lines.{line, line_text}
 use Rattle.listing_rules.specs.Listing.{Found, no_frame, frame_at, pair, hunt, frame_length, said, frame_line, framed, lines}
 
@@ -30,7 +29,7 @@ module _ (at : ℕ) where
   lines-byte zero b x s q = refl
   lines-byte (suc n) b x s q = rw q
 
-  pub lines-pair : (n x : ℕ) (s : List ℕ) → start_row Uart x ≡ Unknown → lines n at (0x1F ∷ x ∷ s) ≡ lines n (at + 2) s
+  pub lines-pair : (n x : ℕ) (s : List ℕ) → start_row Uart x ≡ None → lines n at (0x1F ∷ x ∷ s) ≡ lines n (at + 2) s
   unfolding lines hunt pair
   lines-pair zero x s q = refl
   lines-pair (suc n) x s q = rw q
@@ -57,11 +56,11 @@ hunt-within at [] = tt
 hunt-within at (b ∷ []) = tt
 hunt-within at (b ∷ x ∷ s) = by (hunt-within (at + 2) s) (hunt-within (at + 1) (x ∷ s)) (eqb b 0x1F) refl (start_row Uart x) refl
   where
-    by : FoundWithin (at + 2) s (hunt (at + 2) s) → FoundWithin (at + 1) (x ∷ s) (hunt (at + 1) (x ∷ s)) → (t : Bool) → eqb b 0x1F ≡ t → (r : RowLookup) → start_row Uart x ≡ r
+    by : FoundWithin (at + 2) s (hunt (at + 2) s) → FoundWithin (at + 1) (x ∷ s) (hunt (at + 1) (x ∷ s)) → (t : Bool) → eqb b 0x1F ≡ t → (r : Option StartRow) → start_row Uart x ≡ r
         → FoundWithin at (b ∷ x ∷ s) (hunt at (b ∷ x ∷ s))
     by two one false q r v = rw q (further at 1 (b ∷ x ∷ s) (x ∷ s) (hunt (at + 1) (x ∷ s)) (omega arith) one)
-    by two one true q Unknown v = rw (q, v) (further at 2 (b ∷ x ∷ s) s (hunt (at + 2) s) (omega arith) two)
-    by two one true q (Known row) v = rw (q, v) (omega arith, refl, omega arith)
+    by two one true q None v = rw (q, v) (further at 2 (b ∷ x ∷ s) s (hunt (at + 2) s) (omega arith) two)
+    by two one true q (Some row) v = rw (q, v) (omega arith, refl, omega arith)
 
 -- Turns beyond the bytes that are left change nothing.
 pub lines_enough : (n m at : ℕ) (s : List ℕ) → length s ≤ n → length s ≤ m → lines n at s ≡ lines m at s
@@ -82,7 +81,7 @@ lines_enough (suc n) (suc m) at s h k = by (lines_enough n m) (hunt at s) (hunt-
 
 -- The step of the walk over a frame.
 module _ (at : ℕ) where
-  module _ (f : List ℕ) (x : ℕ) (s : List ℕ) (row : StartRow) (begins : f ≡ 0x1F ∷ x ∷ s) (known : start_row Uart x ≡ Known row) where
+  module _ (f : List ℕ) (x : ℕ) (s : List ℕ) (row : StartRow) (begins : f ≡ 0x1F ∷ x ∷ s) (known : start_row Uart x ≡ Some row) where
     hunt-frame : hunt at f ≡ frame_at at f
     unfolding hunt pair
     hunt-frame = rw (begins, known)
@@ -111,7 +110,7 @@ scan-over (b ∷ d) t = by (scan-over d t) (eqb b 0x1F) refl
         rw (q, scan-plain b (doubled d ++ t) q, again, e)
 
 -- A frame that does not come to its tail: what stands after its body stops the scan at once.
-module _ (start : ℕ) (row : StartRow) (known : start_row Uart start ≡ Known row) (body t : List ℕ) (n at : ℕ) where
+module _ (start : ℕ) (row : StartRow) (known : start_row Uart start ≡ Some row) (body t : List ℕ) (n at : ℕ) where
   pub stops : (how : Stop) → scan t ≡ stopped how 0 → length (0x1F ∷ start ∷ (doubled body ++ t)) ≤ n
       → lines n at (0x1F ∷ start ∷ (doubled body ++ t)) ≡ line_text (line at (counted (said how (0x1F ∷ start ∷ (doubled body ++ t))))) ++ lines n (at + (2 + length (doubled body))) t
   unfolding frame_line
@@ -134,13 +133,13 @@ module _ (b : List ℕ) (at n : ℕ) where
   pub pass_byte : at + 1 < length b → (get_or b at 0 ≡ 0x1F → ⊥) → lines n at (drop at b) ≡ lines n (at + 1) (drop (at + 1) b)
   pass_byte h ne = rw (two_bytes h, one_byte h) (lines-byte at n _ _ _ (ne_eqb _ 0x1F ne))
 
-  pub pass_pair : at + 1 < length b → get_or b at 0 ≡ 0x1F → start_row Uart (get_or b (at + 1) 0) ≡ Unknown → lines n at (drop at b) ≡ lines n (at + 2) (drop (at + 2) b)
+  pub pass_pair : at + 1 < length b → get_or b at 0 ≡ 0x1F → start_row Uart (get_or b (at + 1) 0) ≡ None → lines n at (drop at b) ≡ lines n (at + 2) (drop (at + 2) b)
   pass_pair h e q = rw (two_bytes h, e) (lines-pair at n _ _ q)
 
   pub pass_end : length b < at + 2 → lines n at (drop at b) ≡ []
   pass_end h = lines_end at n (drop at b) (rw length-drop (omega arith))
 
-  pub pass_frame : at + 1 < length b → get_or b at 0 ≡ 0x1F → (row : StartRow) → start_row Uart (get_or b (at + 1) 0) ≡ Known row → length b ≤ n
+  pub pass_frame : at + 1 < length b → get_or b at 0 ≡ 0x1F → (row : StartRow) → start_row Uart (get_or b (at + 1) 0) ≡ Some row → length b ≤ n
       → let f = drop at b in lines n at f ≡ frame_line at f ++ lines n (at + frame_length f) (drop (at + frame_length f) b)
   pass_frame h e row q m =
       let begins : drop at b ≡ 0x1F ∷ get_or b (at + 1) 0 ∷ drop (at + 2) b = two_bytes h ∙ rw e in

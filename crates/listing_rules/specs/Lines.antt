@@ -1,5 +1,5 @@
 -- The lines of the listing (document 01, "The listing"): what each says, and its text.
-use Rattle.std.specs.Prelude.{ℕ, ◌+◌, cond, List, [], ◌∷◌, ◌++◌, leb}
+use Rattle.std.specs.Prelude.{ℕ, ◌+◌, cond, List, [], ◌∷◌, ◌++◌, leb, None, Option, Some}
 use Prim.Native.Char.{code}
 use Prim.Native.String.{String}
 use Prim.Native.String as StringOf
@@ -10,11 +10,7 @@ use Rattle.message_rules.specs.Kinds.{error_length, is_event}
 use Rattle.message_rules.specs.declared.Kind.{Kind}
 use Rattle.message_rules.specs.declared.Kind.TheVariants as KindOf
 use Rattle.message_rules.specs.declared.Message.{Message}
-use Rattle.listing_rules.specs.declared.Field.{Field}
-use Rattle.listing_rules.specs.declared.Field.TheVariants.{Number, Dash}
 use Rattle.listing_rules.specs.declared.Line.{Line}
-use Rattle.listing_rules.specs.declared.Name.{Name}
-use Rattle.listing_rules.specs.declared.Name.TheVariants as NameOf
 
 -- The bytes of a text.
 abbrev pub text : String → List ℕ
@@ -31,28 +27,28 @@ kind_text KindOf.TelemetryResponse = text "tlmrsp"
 kind_text KindOf.TelemetryNack = text "tlmnack"
 kind_text KindOf.Event = text "event"
 
-abbrev pub name_text : Name → List ℕ
-name_text (NameOf.Kind k) = kind_text k
-name_text NameOf.Refused = text "refused"
+abbrev pub name_text : Option Kind → List ℕ
+name_text (Some k) = kind_text k
+name_text None = text "refused"
 
-abbrev pub field_text : Field → List ℕ
-field_text (Number n) = decimal n
-field_text Dash = text "-"
+abbrev pub field_text : Option ℕ → List ℕ
+field_text (Some n) = decimal n
+field_text None = text "-"
 
 -- "ID or `-` (events and refusals)": of a message.
-unfoldable pub id_of : Message → Field
-id_of m = cond (is_event m.kind) Dash (Number m.id)
+unfoldable pub id_of : Message → Option ℕ
+id_of m = cond (is_event m.kind) None (Some m.id)
 
 -- "Error byte of acks and nacks, refusal number, else `-`": of a message.
-unfoldable pub code_of : Message → Field
-code_of m = cond (leb 1 (error_length m.kind)) (Number (error_number m.error)) Dash
+unfoldable pub code_of : Message → Option ℕ
+code_of m = cond (leb 1 (error_length m.kind)) (Some (error_number m.error)) None
 
 -- "Fields: offset of the ESC; kind; ID or `-`; data bytes after undoubling (`-` for refusals); error byte of acks and nacks, refusal
 -- number, else `-`." The reader tells a message and the length of its payload, or a refusal number.
 unfoldable pub line : ℕ → Answer Message ℕ → Line
-line at (refused n) = record { at = at; name = NameOf.Refused; id = Dash; len = Dash; code = Number n }
+line at (refused n) = record { at = at; name = None; id = None; len = None; code = Some n }
 line at (given m n) =
-    record { at = at; name = NameOf.Kind m.kind; id = id_of m; len = Number (error_length m.kind + n); code = code_of m }
+    record { at = at; name = Some m.kind; id = id_of m; len = Some (error_length m.kind + n); code = code_of m }
 
 -- A field after another.
 unfoldable pub spaced : List ℕ → List ℕ

@@ -1,5 +1,6 @@
 -- The listing of a UART stream (document 01, "The listing"). What a frame is, and what it says, are `frame_scan` and `frame_read` of `serial_rules`.
-use Rattle.std.specs.Prelude.{ℕ, zero, suc, ◌+◌, cond, List, [], ◌∷◌, ◌++◌, leb, eqb, length, take, drop}
+use Rattle.serial_rules.specs.declared.StartRow.{StartRow}
+use Rattle.std.specs.Prelude.{ℕ, zero, suc, ◌+◌, cond, List, [], ◌∷◌, ◌++◌, leb, eqb, length, take, drop, None, Option, Some}
 use Rattle.message_rules.specs.Answer.{Answer, refused, counted}
 use Rattle.message_rules.specs.declared.Message.{Message}
 use Rattle.serial_rules.specs.Stuffing.{esc, frame_scan}
@@ -7,8 +8,6 @@ use Rattle.serial_rules.specs.declared.Stop.{Stop}
 use Rattle.serial_rules.specs.declared.Stop.TheVariants.{Ended, Broken, Cut}
 use Rattle.serial_rules.specs.Frames.{start_row, frame_read}
 use Rattle.serial_rules.specs.declared.SerialLink.TheVariants.{Uart}
-use Rattle.serial_rules.specs.declared.RowLookup.{RowLookup}
-use Rattle.serial_rules.specs.declared.RowLookup.TheVariants.{Known, Unknown}
 use Rattle.listing_rules.specs.Lines.{text, line, line_text}
 
 -- What a hunt comes to: a frame's offset and the bytes from its ESC on, or no frame.
@@ -17,9 +16,9 @@ pub data Found : Type 0 where
   frame_at : ℕ → List ℕ → Found
 
 -- ESC with a byte after it: a frame begins there where that is a start byte; else the hunt goes on after the pair.
-unfoldable pub pair : RowLookup → Found → Found → Found
-pair (Known r) here later = here
-pair Unknown here later = later
+unfoldable pub pair : Option StartRow → Found → Found → Found
+pair (Some r) here later = here
+pair None here later = later
 
 -- "Outside a frame it hunts for ESC and a start byte, passing over other bytes singly and ESC with any other byte as a pair"; "a last ESC
 -- outside a frame gives no line".

@@ -6,26 +6,14 @@
 
 use message_rules::Kind;
 
-// What stands for the kind: the kind's name, or `refused`.
-#[derive(Clone, Copy)]
-pub enum Name {
-    Kind(Kind),
-    Refused,
-}
-
-// Another field: a number, or `-`.
-#[derive(Clone, Copy)]
-pub enum Field {
-    Number(usize),
-    Dash,
-}
-
 // A line: the offset of a frame's ESC, and what is said of the frame.
 #[derive(Clone, Copy)]
 pub struct Line {
     pub at: usize,
-    pub name: Name,
-    pub id: Field,
-    pub len: Field,
-    pub code: Field,
+    // None stands for `refused`.
+    pub name: Option<Kind>,
+    // Of these none stands for `-`.
+    pub id: Option<usize>,
+    pub len: Option<usize>,
+    pub code: Option<usize>,
 }

@@ -1,22 +1,14 @@
 // One line of the listing.
-ghost use Rattle.std.specs.Prelude.{◌+◌, ◌≤◌, ◌≡◌, length, take};
-ghost use Rattle.std.proofs.lemmas.List.Edits.{sets};
+ghost use Rattle.std.specs.Prelude.{◌≤◌, ◌≡◌};
 ghost use Rattle.message_rules.specs.Answer.{refused, given, counted, refusal_number};
 ghost use Rattle.serial_rules.specs.Frames.{frame_read};
 ghost use Rattle.listing_rules.specs.Lines.{id_of, code_of, line, kind_text, name_text, field_text, spaced, line_text};
-ghost use Rattle.listing_rules.specs.Listing.{longest};
+ghost use Rattle.listing_writer.specs.Put.{HasRoom, Puts};
 
-use crate::put::{put_decimal, put_text};
-use listing_rules::{Field, Line, Name};
-use message_rules::{Kind, Message, ReadAnswer, Refusal};
+use crate::put::Text;
+use listing_rules::Line;
+use message_rules::{Kind, Message, Refusal};
 use serial_rules::SerialLink;
-
-// A word of at most seven letters, and how many it has.
-#[derive(Clone, Copy)]
-struct Word {
-    letters: [u8; 7],
-    count: usize,
-}
 
 // The line of a complete frame: what the reader says of it. A payload that passes the reader's checks has at most 256 bytes.
 pub(crate) fn read_line(at: usize, frame: &[u8]) -> Line
@@ -24,151 +16,110 @@ pub(crate) fn read_line(at: usize, frame: &[u8]) -> Line
 {
     let mut payload = [0u8; 256];
     match serial_reader::read(SerialLink::Uart, frame, &mut payload) {
-        ReadAnswer::Refused(refusal) => refused_line(at, refusal),
-        ReadAnswer::Message(message, size) => message_line(at, message, size),
+        Err(refusal) => refused_line(at, refusal),
+        Ok((message, size)) => message_line(at, message, size),
     }
 }
 
 // The line of a frame that is refused.
+#[tactic(auto, unfolding(listing_rules::specs::Lines::line))]
 pub(crate) fn refused_line(at: usize, refusal: Refusal) -> Line
     ensures { result ≡ line at (refused (refusal_number refusal)) }
 {
     Line {
         at,
-        name: Name::Refused,
-        id: Field::Dash,
-        len: Field::Dash,
-        code: Field::Number(message_fields::refusal_number(refusal) as usize),
+        name: None,
+        id: None,
+        len: None,
+        code: Some(message_fields::refusal_number(refusal) as usize),
     }
 }
 
 // The line of a frame that reads as a message with a payload of this size.
+#[tactic(auto, unfolding(listing_rules::specs::Lines::line))]
 fn message_line(at: usize, message: Message, size: usize) -> Line
     requires { size ≤ 256 }
     ensures { result ≡ line at (given message size) }
 {
-    let kind = message.kind;
-    let id = id_of(message);
-    let code = code_of(message);
     Line {
         at,
-        name: Name::Kind(kind),
-        id,
-        len: Field::Number(message_kinds::error_length(kind) + size),
-        code,
+        name: Some(message.kind),
+        id: id_of(message),
+        len: Some(message_kinds::error_length(message.kind) + size),
+        code: code_of(message),
     }
 }
 
 // An event has no ID.
-fn id_of(message: Message) -> Field
+#[tactic(auto, unfolding(listing_rules::specs::Lines::id_of))]
+fn id_of(message: Message) -> Option<usize>
     ensures { result ≡ id_of message }
 {
-    let kind = message.kind;
-    if message_kinds::is_event(kind) {
-        return Field::Dash;
-    }
-    Field::Number(message.id as usize)
+    (!message_kinds::is_event(message.kind)).then_some(message.id as usize)
 }
 
 // Acks and nacks have an error byte.
-fn code_of(message: Message) -> Field
+#[tactic(auto, unfolding(listing_rules::specs::Lines::code_of))]
+fn code_of(message: Message) -> Option<usize>
     ensures { result ≡ code_of message }
 {
-    let kind = message.kind;
-    if message_kinds::error_length(kind) < 1 {
-        return Field::Dash;
-    }
-    let error = message.error;
-    Field::Number(message_fields::error_number(error) as usize)
+    let error = message_fields::error_number(message.error) as usize;
+    (1 <= message_kinds::error_length(message.kind)).then_some(error)
 }
 
-// Puts a line at a place of out, and gives the place after it.
-pub(crate) fn put_line(line: Line, out: &mut [u8], at: usize) -> usize
-    requires { at + length (line_text line) ≤ longest }
-    ensures value { result ≡ at + length (line_text line) }
-    ensures out_after { out.new ≡ sets out.old at (line_text line) }
+#[tactic(auto, using(crate::proofs::Parts::line_size))]
+pub(crate) fn put_line(text: &mut Text, line: Line)
+    requires { HasRoom (line_text line) text.old }
+    ensures { Puts (line_text line) text.old text.new }
 {
-    let name = line.name;
-    let id = line.id;
-    let len = line.len;
-    let code = line.code;
-    let to = put_decimal(line.at, out, at);
-    let to = put_name(name, out, to);
-    let to = put_field(id, out, to);
-    let to = put_field(len, out, to);
-    let to = put_field(code, out, to);
-    put_text(b"\n", out, to)
+    text.put_decimal(line.at);
+    put_name(text, line.name);
+    put_field(text, line.id);
+    put_field(text, line.len);
+    put_field(text, line.code);
+    text.put(b"\n");
 }
 
-// Puts the name after the offset.
-fn put_name(name: Name, out: &mut [u8], at: usize) -> usize
-    requires { at + length (spaced (name_text name)) ≤ longest }
-    ensures value { result ≡ at + length (spaced (name_text name)) }
-    ensures out_after { out.new ≡ sets out.old at (spaced (name_text name)) }
+// The name after the offset.
+fn put_name(text: &mut Text, name: Option<Kind>)
+    requires { HasRoom (spaced (name_text name)) text.old }
+    ensures { Puts (spaced (name_text name)) text.old text.new }
 {
-    let to = put_text(b" ", out, at);
-    let word = name_word(name);
-    let letters = word.letters;
-    let count = word.count;
-    put_text(&letters[..count], out, to)
+    text.put(b" ");
+    text.put(name_word(name));
 }
 
-// Puts a field after another.
-fn put_field(field: Field, out: &mut [u8], at: usize) -> usize
-    requires { at + length (spaced (field_text field)) ≤ longest }
-    ensures value { result ≡ at + length (spaced (field_text field)) }
-    ensures out_after { out.new ≡ sets out.old at (spaced (field_text field)) }
+// A field after another.
+fn put_field(text: &mut Text, field: Option<usize>)
+    requires { HasRoom (spaced (field_text field)) text.old }
+    ensures { Puts (spaced (field_text field)) text.old text.new }
 {
-    let to = put_text(b" ", out, at);
+    text.put(b" ");
     match field {
-        Field::Number(n) => put_decimal(n, out, to),
-        Field::Dash => put_text(b"-", out, to),
+        Some(n) => text.put_decimal(n),
+        None => text.put(b"-"),
     }
 }
 
-fn name_word(name: Name) -> Word
-    ensures { (take result.count result.letters ≡ name_text name) × (result.count ≤ length result.letters) }
+fn name_word(name: Option<Kind>) -> &'static [u8]
+    ensures { result.now ≡ name_text name }
 {
     match name {
-        Name::Kind(kind) => kind_word(kind),
-        Name::Refused => Word {
-            letters: *b"refused",
-            count: 7,
-        },
+        Some(kind) => kind_word(kind),
+        None => b"refused",
     }
 }
 
-fn kind_word(kind: Kind) -> Word
-    ensures { (take result.count result.letters ≡ kind_text kind) × (result.count ≤ length result.letters) }
+fn kind_word(kind: Kind) -> &'static [u8]
+    ensures { result.now ≡ kind_text kind }
 {
     match kind {
-        Kind::Telecommand => Word {
-            letters: *b"tc     ",
-            count: 2,
-        },
-        Kind::TelecommandAck => Word {
-            letters: *b"tcack  ",
-            count: 5,
-        },
-        Kind::TelecommandNack => Word {
-            letters: *b"tcnack ",
-            count: 6,
-        },
-        Kind::TelemetryRequest => Word {
-            letters: *b"tlmreq ",
-            count: 6,
-        },
-        Kind::TelemetryResponse => Word {
-            letters: *b"tlmrsp ",
-            count: 6,
-        },
-        Kind::TelemetryNack => Word {
-            letters: *b"tlmnack",
-            count: 7,
-        },
-        Kind::Event => Word {
-            letters: *b"event  ",
-            count: 5,
-        },
+        Kind::Telecommand => b"tc",
+        Kind::TelecommandAck => b"tcack",
+        Kind::TelecommandNack => b"tcnack",
+        Kind::TelemetryRequest => b"tlmreq",
+        Kind::TelemetryResponse => b"tlmrsp",
+        Kind::TelemetryNack => b"tlmnack",
+        Kind::Event => b"event",
     }
 }

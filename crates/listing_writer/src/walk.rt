@@ -5,40 +5,52 @@ ghost use Rattle.message_rules.specs.Answer.{write_result, within, counted, outp
 ghost use Rattle.serial_rules.specs.Stuffing.{frame_scan};
 ghost use Rattle.listing_rules.specs.Lines.{line};
 ghost use Rattle.listing_rules.specs.Listing.{frame_length, said, listing};
+ghost use Rattle.listing_writer.specs.Put.{Puts};
 
 use crate::line::{put_line, read_line, refused_line};
-use crate::put::put_text;
+use crate::put::Text;
 use listing_rules::Line;
-use message_rules::{Refusal, WriteAnswer};
+use message_rules::Refusal;
 use serial_fields::Uart;
-use serial_rules::{RowLookup, SerialLink, Stop};
+use serial_rules::{SerialLink, Stop};
 
 const LONGEST_INPUT: usize = 65536;
 
 // Puts the listing of a stream over the start of out. The text is counted before the first byte is stored.
-pub fn list(bytes: &[u8], out: &mut [u8]) -> WriteAnswer
+pub fn list(bytes: &[u8], out: &mut [u8]) -> Result<usize, Refusal>
     ensures result_value { write_result result ≡ counted (within out.old (written (listing bytes.now))) }
     ensures out_after { out.new ≡ output_after (within out.old (written (listing bytes.now))) out.old }
 {
     if bytes.len() > LONGEST_INPUT {
         return message_output::put(b"input too long\n", out);
     }
-    let mut nothing = [0u8; 0];
-    if out.len() < walk(bytes, &mut nothing) {
-        return WriteAnswer::Refused(Refusal::OutputTooShort);
+    if out.len() < put_listing(bytes, &mut []) {
+        return Err(Refusal::OutputTooShort);
     }
-    WriteAnswer::Length(walk(bytes, out))
+    Ok(put_listing(bytes, out))
 }
 
 // Puts as much of the listing as out has room for, and gives the length of all of it.
-fn walk(bytes: &[u8], out: &mut [u8]) -> usize
+fn put_listing(bytes: &[u8], out: &mut [u8]) -> usize
     requires { length bytes.now ≤ 65536 }
     ensures value { result ≡ length (listing bytes.now) }
     ensures out_after { out.new ≡ sets out.old 0 (listing bytes.now) }
 {
-    let mut to = put_text(b"at kind id len code\n", out, 0);
+    let mut text = Text { out, at: 0 };
+    walk(bytes, &mut text);
+    text.at
+}
+
+// The header, and a line for each frame.
+fn walk(bytes: &[u8], text: &mut Text)
+    requires short { length bytes.now ≤ 65536 }
+    requires start { text.old.at ≡ 0 }
+    ensures { Puts (listing bytes.now) text.old text.new }
+{
+    text.put(b"at kind id len code\n");
     let mut at = 0;
     'frames: loop {
+        // By hand: ESC takes the byte after it along, so that a turn goes on by one byte or by two.
         let start = loop {
             if bytes.len() < at + 2 {
                 break 'frames;
@@ -47,18 +59,15 @@ fn walk(bytes: &[u8], out: &mut [u8]) -> usize
                 at += 1;
                 continue;
             }
-            if let RowLookup::Known(_) = serial_fields::start_row(SerialLink::Uart, bytes[at + 1]) {
+            if serial_fields::start_row(SerialLink::Uart, bytes[at + 1]).is_some() {
                 break at;
             }
             at += 2;
         };
         let scanned = serial_scan::scan(SerialLink::Uart, bytes, start + 2);
-        let stop = scanned.stop;
-        let end = scanned.end;
-        to = put_line(frame_line(bytes, start, stop, end), out, to);
-        at = end;
+        put_line(text, frame_line(bytes, start, scanned.stop, scanned.end));
+        at = scanned.end;
     }
-    to
 }
 
 // The line of the frame that starts at a place, where the scan from there stopped so at that end.

@@ -1,4 +1,5 @@
 -- The setup of P11 and P12, on every link: a new unit with own address 31 takes it; and on RS485 the same setup as a broadcast. And what P11 leaves.
+use Rattle.std.specs.Prelude.{None, Some}
 use Prim.Native.Nat.{ℕ}
 use mathlib.Core.Bool.{false}
 use mathlib.Core.List.{List, []}
@@ -7,7 +8,6 @@ use lib.ListN.{length}
 use Rattle.message_rules.specs.Answer.{given, within}
 use Rattle.message_rules.specs.declared.Kind.TheVariants.{Telecommand}
 use Rattle.file_rules.specs.Setup.{setup_bytes}
-use Rattle.file_rules.specs.declared.Job.TheVariants as JobOf
 use Rattle.link_rules.specs.Link.{link_carried, link_read}
 use Rattle.link_rules.specs.declared.Link.{Link}
 use Rattle.link_rules.specs.declared.Link.TheVariants.{Rs485}
@@ -18,7 +18,6 @@ use Rattle.device_rules.specs.Receive.{Reply, answers, silent, addressing, recei
 use Rattle.device_rules.specs.declared.Addressing.{Addressing}
 use Rattle.device_rules.specs.declared.Addressing.TheVariants.{Own, Broadcast}
 use Rattle.device_rules.specs.declared.Device.{Device}
-use Rattle.device_rules.specs.declared.Fault.TheVariants.{None}
 use Rattle.round_rules.specs.Schedule.{output}
 use Rattle.round_rules.specs.World.{bytes_or}
 use Rattle.sender_rules.specs.Sender.{new_sender, start}
@@ -36,7 +35,7 @@ Accepted l destination a out reply =
     × (command_fault unit room 20 (setup_bytes 300 7) ≡ None)
     × (within out (receive unit room (setup_on l destination)) ≡ given (reply (opened l).device) answer)
     × (after_receive unit (given (reply (opened l).device) answer) ≡ (opened l).device)
-    × (start l 255 31 300 JobOf.None ≡ given (opened l).requester tt)
+    × (start l 255 31 300 None ≡ given (opened l).requester tt)
 
 -- For the unit, acked,
 abbrev pub Accepts : Link → Type 0
@@ -54,9 +53,9 @@ Finishes l =
     × (unit.own ≡ 31)
     × (is_open unit.transfer.phase ≡ false)
     × (unit.transfer.pending ≡ false)
-    × (unit.transfer.job ≡ JobOf.None)
-    × (unit.finished ≡ JobOf.Number 7)
+    × (unit.transfer.job ≡ None)
+    × (unit.finished ≡ Some 7)
     × (length (all_delivered l).store ≡ 303)
 
 abbrev pub Starts : Link → Type 0
-Starts l = (number : ℕ) → start l 255 31 300 (JobOf.Number number) ≡ given (new_sender l 255 31 300 (JobOf.Number number)) tt
+Starts l = (number : ℕ) → start l 255 31 300 (Some number) ≡ given (new_sender l 255 31 300 (Some number)) tt

@@ -1,12 +1,12 @@
 -- Demand 3 begins with an accepted setup: there is one on every link, and on RS485 one that nobody answered. Carried by `Marked`, where the setup is
 -- written, read and carried out.
+use Rattle.std.specs.Prelude.{Some}
 use Prim.Native.Nat.{ℕ}
 use mathlib.Core.List.{List, []}
 use mathlib.Core.Path.{◌≡◌, refl, sym, ◌∙◌}
 use native.Mathlib.Omega.{arith}
 use lib.ListN.{length}
 use Rattle.file_rules.specs.Setup.{setup_bytes}
-use Rattle.file_rules.specs.declared.Job.TheVariants as JobOf
 use Rattle.file_rules.proofs.Setup.{written_read}
 use Rattle.message_rules.specs.Kinds.{carried_on}
 use Rattle.message_rules.specs.declared.Kind.TheVariants.{Telecommand}
@@ -96,7 +96,7 @@ every_link-starts-next-job l =
       fits = omega (arith, left.6);
       number = 8;
       small = omega arith;
-      unfinished = λ e. let seven : JobOf.Number 7 ≡ JobOf.Number 8 = sym left.5 ∙ e in let z : ◌≡◌ {A = ℕ} 7 8 = cc in omega arith;
+      unfinished = λ e. let seven : Some 7 ≡ Some 8 = sym left.5 ∙ e in let z : ◌≡◌ {A = ℕ} 7 8 = cc in omega arith;
       source = 255;
       destination = 31;
       started = rw left.0 (job-starts l 8);

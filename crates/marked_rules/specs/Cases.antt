@@ -1,8 +1,7 @@
 -- Document 01, "Marked cases": P1 to P12 as a list, and the one statement that all of them hold.
-use Rattle.std.specs.Prelude.{ℕ, ◌+◌, ◌-◌, ◌*◌, true, List, [], ◌∷◌, ◌++◌, ◌≡◌, length, get_or, take, replicate}
+use Rattle.std.specs.Prelude.{ℕ, ◌+◌, ◌-◌, ◌*◌, true, List, [], ◌∷◌, ◌++◌, ◌≡◌, length, get_or, take, replicate, None, Some}
 use Rattle.little_endian_rules.specs.LittleEndian.{from_bytes}
 use Rattle.message_rules.specs.Answer.{refused, given, written}
-use Rattle.message_rules.specs.declared.ErrorByte.TheVariants.{Told}
 use Rattle.message_rules.specs.declared.Kind.{Kind}
 use Rattle.message_rules.specs.declared.Kind.TheVariants.{Telecommand, TelecommandAck, TelecommandNack, TelemetryRequest}
 use Rattle.message_rules.specs.declared.Message.{Message}
@@ -13,7 +12,6 @@ use Rattle.serial_rules.specs.declared.SerialLink.TheVariants.{Uart, Rs485}
 use Rattle.link_rules.specs.Link.{link_read, link_write, link_carried}
 use Rattle.link_rules.specs.declared.Link.{Link}
 use Rattle.file_rules.specs.Setup.{setup_bytes}
-use Rattle.file_rules.specs.declared.Job.TheVariants as JobOf
 use Rattle.device_rules.specs.Device.{new_device}
 use Rattle.device_rules.specs.Answers.{after_receive}
 use Rattle.device_rules.specs.Receive.{receive}
@@ -30,7 +28,7 @@ use Rattle.round_rules.specs.declared.State.TheVariants.{Finished}
 
 -- A message of a kind, an ID and addresses whose other fields are 0.
 abbrev pub plain : Kind → ℕ → ℕ → ℕ → Message
-plain k id source destination = record { kind = k; id = id; source = source; destination = destination; error = Told 0; index = 0 }
+plain k id source destination = record { kind = k; id = id; source = source; destination = destination; error = Some 0; index = 0 }
 
 -- What CAN writes for a telecommand of n bytes (nothing if it is refused), and the DLC of its last frame.
 abbrev pub command_bytes : ℕ → List ℕ
@@ -62,7 +60,7 @@ opened l =
     record {
       device = after_receive unit (receive unit 303 (setup_on l 31));
       store = empty_store;
-      requester = new_sender l 255 31 300 JobOf.None;
+      requester = new_sender l 255 31 300 None;
       request = [];
       answer = [];
     }
@@ -95,7 +93,7 @@ abbrev pub AnswerLost : Link → Type 0
 AnswerLost l =
     let w = asked_again l in
     let v = does (sending file) w (arrives w.request shared output) in
-    let nack : Message = record { kind = TelecommandNack; id = 21; source = 31; destination = 255; error = Told 3; index = 2 } in
+    let nack : Message = record { kind = TelecommandNack; id = 21; source = 31; destination = 255; error = Some 3; index = 2 } in
     (link_read l v.answer ≡ given (link_carried l nack) []) × (w.store ≡ full_store) × (v.store ≡ full_store)
 
 abbrev pub cases : List (Type 0)

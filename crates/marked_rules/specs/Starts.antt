@@ -1,7 +1,6 @@
 -- Worlds that demand 3 begins with: "as the accepted setup (a telecommand 20, carried out) left unit and store" (document 01, "The sender and its
 -- rounds"), or with "a sender started with a job number" (document 02, ticket 5). So its claim is not empty.
-use Rattle.std.specs.Prelude.{ℕ, List, [], ◌≡◌}
-use Rattle.file_rules.specs.declared.Job.TheVariants.{Number}
+use Rattle.std.specs.Prelude.{ℕ, List, [], ◌≡◌, Some}
 use Rattle.link_rules.specs.declared.Link.{Link}
 use Rattle.link_rules.specs.declared.Link.TheVariants.{Rs485}
 use Rattle.device_rules.specs.Receive.{Reply, answers, silent, addressing}
@@ -33,7 +32,7 @@ BroadcastStarts = StartAfter Rs485 Broadcast [] silent
 
 -- A unit on a link, and a sender newly started with a job for the file of P11 and P12.
 unfoldable pub started_with : Link → Device → List ℕ → ℕ → World Sender
-started_with l unit store number = record { device = unit; store = store; requester = new_sender l 255 31 300 (Number number); request = []; answer = [] }
+started_with l unit store number = record { device = unit; store = store; requester = new_sender l 255 31 300 (Some number); request = []; answer = [] }
 
 -- With a job demand 3 begins on every link at a new unit,
 abbrev pub EveryLinkStartsJob : Type 0

@@ -8,74 +8,66 @@ ghost use Rattle.std.specs.Prelude.{◌≡◌};
 ghost use Rattle.message_rules.specs.Answer.{verdict_result};
 ghost use Rattle.message_rules.specs.Checks.{field_checks, error_told, writable, write_checks, data_fits, data_checks};
 
+use message_kinds::{error_length, is_event, is_nack};
 use message_ranges::{error_legal, id_legal, payload_legal};
-use message_rules::{Carries, ErrorByte, Kind, Message, Refusal, Verdict};
+use message_rules::{Carries, Kind, Message, Refusal};
 
 // The checks 9, 5, 6 and 7 of a message that is to be written with a payload of this size.
-pub fn check_written(link: Carries, message: Message, size: usize) -> Verdict
+#[tactic(auto, unfolding(message_rules::specs::Answer::verdict_result, message_rules::specs::Answer::require, message_rules::specs::Checks::write_checks))]
+pub fn check_written(link: Carries, message: Message, size: usize) -> Result<(), Refusal>
     ensures { verdict_result result ≡ write_checks link message size }
 {
     if !writable(link, message) {
-        return Verdict::Refused(Refusal::NotWritable);
+        return Err(Refusal::NotWritable);
     }
-    let kind = message.kind;
-    check_fields(message, payload_legal(kind, size))
+    check_fields(message, payload_legal(message.kind, size))
 }
 
 // The checks 5, 6 and 7 of a message that was read with data of this size, where the link carries the error byte.
-pub fn check_data(message: Message, size: usize) -> Verdict
+#[tactic(auto, unfolding(message_rules::specs::Checks::data_checks))]
+pub fn check_data(message: Message, size: usize) -> Result<(), Refusal>
     ensures { verdict_result result ≡ data_checks message size }
 {
-    let kind = message.kind;
-    check_fields(message, data_fits(kind, size))
+    check_fields(message, data_fits(message.kind, size))
 }
 
-fn check_fields(message: Message, fits: bool) -> Verdict
+#[tactic(auto, unfolding(message_rules::specs::Answer::verdict_result, message_rules::specs::Answer::require, message_rules::specs::Checks::field_checks))]
+fn check_fields(message: Message, fits: bool) -> Result<(), Refusal>
     ensures { verdict_result result ≡ field_checks message fits }
 {
-    let kind = message.kind;
-    if !id_legal(kind, message.id) {
-        return Verdict::Refused(Refusal::IdOutOfRange);
+    if !id_legal(message.kind, message.id) {
+        return Err(Refusal::IdOutOfRange);
     }
     if !fits {
-        return Verdict::Refused(Refusal::WrongLength);
+        return Err(Refusal::WrongLength);
     }
-    let error = message.error;
-    if !error_legal(kind, error) {
-        return Verdict::Refused(Refusal::IllegalValue);
+    if !error_legal(message.kind, message.error) {
+        return Err(Refusal::IllegalValue);
     }
-    Verdict::Passed
+    Ok(())
 }
 
+#[tactic(auto, unfolding(message_rules::specs::Checks::writable))]
 fn writable(link: Carries, message: Message) -> bool
     ensures { result ≡ writable link message }
 {
-    let kind = message.kind;
-    if message_kinds::is_event(kind) {
+    if is_event(message.kind) {
         return link.events;
     }
-    if !link.errors {
-        return true;
-    }
-    let error = message.error;
-    error_told(kind, error)
+    !link.errors || error_told(message.kind, message.error)
 }
 
-fn error_told(kind: Kind, error: ErrorByte) -> bool
+#[tactic(auto, unfolding(message_rules::specs::Checks::error_told))]
+fn error_told(kind: Kind, error: Option<u8>) -> bool
     ensures { result ≡ error_told kind error }
 {
-    match error {
-        ErrorByte::Told(_) => true,
-        ErrorByte::NotTold => !message_kinds::is_nack(kind),
-    }
+    error.is_some() || !is_nack(kind)
 }
 
+#[tactic(auto, unfolding(message_rules::specs::Checks::data_fits))]
 fn data_fits(kind: Kind, size: usize) -> bool
     ensures { result ≡ data_fits kind size }
 {
-    let tells = message_kinds::error_length(kind);
-    if size < tells {
-        return false;
-    }
-    payload_legal(kind, size - tells)
+    let tells = error_length(kind);
+    tells <= size && payload_legal(kind, size - tells)
 }

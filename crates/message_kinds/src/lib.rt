@@ -4,20 +4,16 @@
 ghost use Rattle.std.specs.Prelude.{◌≡◌};
 ghost use Rattle.message_rules.specs.Kinds.{error_length, type_number, type_kind, is_nack, is_event};
 
-use message_rules::{Kind, KindLookup};
+use message_rules::Kind;
 
 // How many bytes of the data on UART, RS485 and CSP tell the error.
 pub fn error_length(kind: Kind) -> usize
     ensures { result ≡ error_length kind }
 {
     match kind {
-        Kind::Telecommand => 0,
         Kind::TelecommandAck => 1,
-        Kind::TelecommandNack => 2,
-        Kind::TelemetryRequest => 0,
-        Kind::TelemetryResponse => 0,
-        Kind::TelemetryNack => 2,
-        Kind::Event => 0,
+        Kind::TelecommandNack | Kind::TelemetryNack => 2,
+        Kind::Telecommand | Kind::TelemetryRequest | Kind::TelemetryResponse | Kind::Event => 0,
     }
 }
 
@@ -37,17 +33,18 @@ pub fn type_number(kind: Kind) -> u8
 }
 
 // The kind of one of the types 1..6, CSP's and those of CAN's single frames.
-pub fn type_kind(number: u8) -> KindLookup
+#[tactic(auto, unfolding(message_rules::specs::Kinds::type_kind))]
+pub fn type_kind(number: u8) -> Option<Kind>
     ensures { result ≡ type_kind number }
 {
     match number {
-        1 => KindLookup::Known(Kind::Telecommand),
-        2 => KindLookup::Known(Kind::TelecommandAck),
-        3 => KindLookup::Known(Kind::TelecommandNack),
-        4 => KindLookup::Known(Kind::TelemetryRequest),
-        5 => KindLookup::Known(Kind::TelemetryResponse),
-        6 => KindLookup::Known(Kind::TelemetryNack),
-        _ => KindLookup::Unknown,
+        1 => Some(Kind::Telecommand),
+        2 => Some(Kind::TelecommandAck),
+        3 => Some(Kind::TelecommandNack),
+        4 => Some(Kind::TelemetryRequest),
+        5 => Some(Kind::TelemetryResponse),
+        6 => Some(Kind::TelemetryNack),
+        _ => None,
     }
 }
 
@@ -55,28 +52,12 @@ pub fn type_kind(number: u8) -> KindLookup
 pub fn is_nack(kind: Kind) -> bool
     ensures { result ≡ is_nack kind }
 {
-    match kind {
-        Kind::Telecommand => false,
-        Kind::TelecommandAck => false,
-        Kind::TelecommandNack => true,
-        Kind::TelemetryRequest => false,
-        Kind::TelemetryResponse => false,
-        Kind::TelemetryNack => true,
-        Kind::Event => false,
-    }
+    matches!(kind, Kind::TelecommandNack | Kind::TelemetryNack)
 }
 
 // Whether it is an event, which has neither error byte nor index.
 pub fn is_event(kind: Kind) -> bool
     ensures { result ≡ is_event kind }
 {
-    match kind {
-        Kind::Telecommand => false,
-        Kind::TelecommandAck => false,
-        Kind::TelecommandNack => false,
-        Kind::TelemetryRequest => false,
-        Kind::TelemetryResponse => false,
-        Kind::TelemetryNack => false,
-        Kind::Event => true,
-    }
+    matches!(kind, Kind::Event)
 }

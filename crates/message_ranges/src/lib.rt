@@ -6,12 +6,13 @@ mod table;
 
 ghost use Rattle.std.specs.Prelude.{◌≡◌};
 ghost use Rattle.message_rules.specs.Checks.{id_legal, payload_legal, error_legal};
-ghost use Rattle.message_rules.specs.Kinds.{inside, is_ack};
+ghost use Rattle.message_rules.specs.Kinds.{inside};
 
-use message_rules::{ErrorByte, Kind, Range};
+use message_rules::{Kind, Range};
 use table::ranges_of;
 
 // Whether a number is in a range, both ends included.
+#[tactic(auto, unfolding(message_rules::specs::Kinds::inside))]
 pub fn contains(range: Range, n: usize) -> bool
     ensures { result ≡ inside range n }
 {
@@ -19,48 +20,28 @@ pub fn contains(range: Range, n: usize) -> bool
 }
 
 // Whether the ID is of the kind's range.
+#[tactic(auto, unfolding(message_rules::specs::Checks::id_legal))]
 pub fn id_legal(kind: Kind, id: u8) -> bool
     ensures { result ≡ id_legal kind id }
 {
-    let ranges = ranges_of(kind);
-    let range = ranges.id;
-    contains(range, id as usize)
+    contains(ranges_of(kind).id, id as usize)
 }
 
 // Whether the kind can have a payload of this size.
+#[tactic(auto, unfolding(message_rules::specs::Checks::payload_legal))]
 pub fn payload_legal(kind: Kind, size: usize) -> bool
     ensures { result ≡ payload_legal kind size }
 {
-    let ranges = ranges_of(kind);
-    let range = ranges.payload;
-    contains(range, size)
+    contains(ranges_of(kind).payload, size)
 }
 
-// Whether the kind can have this error byte, told or not.
-pub fn error_legal(kind: Kind, error: ErrorByte) -> bool
+// Whether the kind can have this error byte, told or not. Not told, no ack can have it.
+#[tactic(auto, unfolding(message_rules::specs::Checks::error_legal))]
+pub fn error_legal(kind: Kind, error: Option<u8>) -> bool
     ensures { result ≡ error_legal kind error }
 {
     match error {
-        ErrorByte::Told(e) => {
-            let ranges = ranges_of(kind);
-            let range = ranges.error;
-            contains(range, e as usize)
-        }
-        ErrorByte::NotTold => !is_ack(kind),
-    }
-}
-
-// An ack has an error byte and no index.
-fn is_ack(kind: Kind) -> bool
-    ensures { result ≡ is_ack kind }
-{
-    match kind {
-        Kind::Telecommand => false,
-        Kind::TelecommandAck => true,
-        Kind::TelecommandNack => false,
-        Kind::TelemetryRequest => false,
-        Kind::TelemetryResponse => false,
-        Kind::TelemetryNack => false,
-        Kind::Event => false,
+        Some(e) => contains(ranges_of(kind).error, e as usize),
+        None => !matches!(kind, Kind::TelecommandAck),
     }
 }

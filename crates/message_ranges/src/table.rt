@@ -14,7 +14,9 @@ pub(crate) struct KindRanges {
 }
 
 pub(crate) fn ranges_of(kind: Kind) -> KindRanges
-    ensures { (result.id ≡ id_range kind) × (result.payload ≡ payload_range kind) × (result.error ≡ error_range kind) }
+    ensures id { result.id ≡ id_range kind }
+    ensures payload { result.payload ≡ payload_range kind }
+    ensures error { result.error ≡ error_range kind }
 {
     match kind {
         Kind::Telecommand => allowed(Range(0, 127), Range(0, 256), Range(0, 255)),
@@ -28,7 +30,7 @@ pub(crate) fn ranges_of(kind: Kind) -> KindRanges
 }
 
 fn allowed(id: Range, payload: Range, error: Range) -> KindRanges
-    ensures { (result.id ≡ id) × (result.payload ≡ payload) × (result.error ≡ error) }
+    ensures { result ≡ record { id = id; payload = payload; error = error } }
 {
     KindRanges { id, payload, error }
 }

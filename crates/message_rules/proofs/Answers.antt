@@ -1,4 +1,5 @@
 -- The laws of the answer shapes, by the test of the output's length and the case of the answer; those of a copy by one byte more at its place.
+use Rattle.std.specs.Prelude.{Err, Ok, Result, ℕ}
 use Prim.Native.Nat.{ℕ, suc, ◌+◌, ◌≤◌, ◌<◌}
 use mathlib.Core.Path.{◌≡◌, refl, ◌∙◌, ap}
 use mathlib.Core.Bool.{Bool, true, false}
@@ -10,8 +11,6 @@ use lib.Dec.{leb}
 use lib.ListN.{length, get_or, set, take, drop, length-append}
 use lib.Seq.{drop-cons, take-suc, append_snoc, set_at, length-take-le, take-length, take_at, drop-length}
 use Rattle.message_rules.specs.declared.Refusal.{Refusal}
-use Rattle.message_rules.specs.declared.WriteAnswer.{WriteAnswer}
-use Rattle.message_rules.specs.declared.WriteAnswer.TheVariants.{Refused, Length}
 use Rattle.message_rules.specs.Answer.{Check, passed, failed, refusal_number, write_result, written, Answer, refused, given, require, after, within, counted, output_after, about}
 
 module _ {A : Type 0} (out : List ℕ) (a : A) (b : List ℕ) where
@@ -141,17 +140,17 @@ unfolding output_after
 put_all out bytes left e same = e ∙ rw (long_enough out (tt {0}) bytes (omega arith), same, drop-length) (append-nil bytes)
 
 -- What a caller of `put` learns in each case of its answer.
-module _ (bytes out out' : List ℕ) (w : WriteAnswer) (says : write_result w ≡ counted (within out (written bytes))) (left : out' ≡ output_after (within out (written bytes)) out) where
-  pub put_refused : (r : Refusal) → w ≡ Refused r → (length out < length bytes) × (refusal_number r ≡ 8) × (out' ≡ out)
+module _ (bytes out out' : List ℕ) (w : Result ℕ Refusal) (says : write_result w ≡ counted (within out (written bytes))) (left : out' ≡ output_after (within out (written bytes)) out) where
+  pub put_refused : (r : Refusal) → w ≡ Err r → (length out < length bytes) × (refusal_number r ≡ 8) × (out' ≡ out)
   unfolding write_result
   put_refused r e =
       let t : counted (within out (written bytes)) ≡ refused (refusal_number r) = cc in
       let h = counted_short tt out bytes (refusal_number r) t in
       (h.0, h.1, left ∙ refusal-leaves _ _ out t)
 
-  pub put-length : (n : ℕ) → w ≡ Length n → (length bytes ≤ length out) × (n ≡ length bytes) × (out' ≡ bytes ++ drop (length bytes) out)
+  pub put-length : (n : ℕ) → w ≡ Ok n → (length bytes ≤ length out) × (n ≡ length bytes) × (out' ≡ bytes ++ drop (length bytes) out)
   unfolding write_result output_after
   put-length n e =
-      let t : counted (within out (written bytes)) ≡ write_result (Length n) = cc in
+      let t : counted (within out (written bytes)) ≡ write_result (Ok n) = cc in
       let h = counted-fits tt out bytes n tt t in
       (h.0, h.1, left ∙ rw (long_enough out (tt {0}) bytes h.0))

@@ -1,5 +1,6 @@
 -- The laws of the data that UART, RS485 and CSP share: what its checks say, by their tests, and that reading and writing it are inverse, by the
 -- case of the kind.
+use Rattle.std.specs.Prelude.{None, Option, Some, ℕ, Ok, Result}
 use Prim.Native.Nat.{ℕ, ◌+◌, ◌-◌, ◌≤◌}
 use mathlib.Core.Path.{◌≡◌, refl, ap, ◌∙◌}
 use mathlib.Core.Bool.{Bool, true, false, cond}
@@ -14,13 +15,10 @@ use Rattle.message_rules.specs.Answer.{verdict_result, passed, failed, refused, 
 use Rattle.message_rules.specs.Data.{error_number, error_bytes, data_bytes, data_message, data_read}
 use Rattle.message_rules.specs.Checks.{id_legal, payload_legal, error_legal, error_told, field_checks, data_fits, data_checks}
 use Rattle.message_rules.specs.Kinds.{inside, error_length, is_event, error_carried, index_carried, carried_on}
-use Rattle.message_rules.specs.declared.ErrorByte.{ErrorByte}
-use Rattle.message_rules.specs.declared.ErrorByte.TheVariants.{Told, NotTold}
 use Rattle.message_rules.specs.declared.Kind.{Kind}
 use Rattle.message_rules.specs.declared.Kind.TheVariants.{Telecommand, TelecommandAck, TelecommandNack, TelemetryRequest, TelemetryResponse, TelemetryNack, Event}
 use Rattle.message_rules.specs.declared.Message.{Message}
-use Rattle.message_rules.specs.declared.Verdict.{Verdict}
-use Rattle.message_rules.specs.declared.Verdict.TheVariants.{Passed}
+use Rattle.message_rules.specs.declared.Refusal.{Refusal}
 use Rattle.message_rules.proofs.Answers.{after-given}
 use Rattle.message_rules.proofs.Checks.{both_true, fields_passed, fields_pass}
 use Rattle.message_rules.proofs.Tables.{error_length_two}
@@ -31,7 +29,7 @@ unfolding data_fits
 data_fits_lem k n e = let h = both_true _ _ e in (leb-true _ _ h.0, h.1)
 
 -- So where the checks pass, the payload starts within the data.
-pub data-room : (v : Verdict) (m : Message) (n : ℕ) → verdict_result v ≡ data_checks m n → v ≡ Passed → error_length m.kind ≤ n
+pub data-room : (v : Result Unit Refusal) (m : Message) (n : ℕ) → verdict_result v ≡ data_checks m n → v ≡ Ok tt → error_length m.kind ≤ n
 unfolding verdict_result data_checks
 data-room v m n result p =
     let h : data_checks m n ≡ passed = cc in
@@ -48,7 +46,7 @@ module _ (k : Kind) (id s t : ℕ) (d : List ℕ) where
 
 -- What tells the error reads back, by the kind.
 fields_again : (k : Kind) (id s t e i : ℕ) (p : List ℕ)
-    → data_message k id s t (take (error_length k) (e ∷ i ∷ []) ++ p) ≡ record { kind = k; id = id; source = s; destination = t; error = error_carried true k (Told e); index = index_carried true k i }
+    → data_message k id s t (take (error_length k) (e ∷ i ∷ []) ++ p) ≡ record { kind = k; id = id; source = s; destination = t; error = error_carried true k (Some e); index = index_carried true k i }
 unfolding data_message error_carried index_carried
 fields_again Telecommand id s t e i p = refl
 fields_again TelecommandAck id s t e i p = refl
@@ -59,19 +57,19 @@ fields_again TelemetryNack id s t e i p = refl
 fields_again Event id s t e i p = refl
 
 -- A legal error that a link can write is told wherever the kind carries one.
-carried_told : (k : Kind) (e : ErrorByte) → error_legal k e ≡ true → error_told k e ≡ true → error_carried true k (Told (error_number e)) ≡ error_carried true k e
+carried_told : (k : Kind) (e : Option ℕ) → error_legal k e ≡ true → error_told k e ≡ true → error_carried true k (Some (error_number e)) ≡ error_carried true k e
 unfolding error_carried error_legal error_told
-carried_told k (Told e) legal tells = refl
-carried_told Telecommand NotTold legal tells = refl
-carried_told TelecommandAck NotTold legal tells = absurd (let z : ◌≡◌ {A = ℕ} 0 1 = cc in omega arith)
-carried_told TelecommandNack NotTold legal tells = absurd (let z : ◌≡◌ {A = ℕ} 0 1 = cc in omega arith)
-carried_told TelemetryRequest NotTold legal tells = refl
-carried_told TelemetryResponse NotTold legal tells = refl
-carried_told TelemetryNack NotTold legal tells = absurd (let z : ◌≡◌ {A = ℕ} 0 1 = cc in omega arith)
-carried_told Event NotTold legal tells = refl
+carried_told k (Some e) legal tells = refl
+carried_told Telecommand None legal tells = refl
+carried_told TelecommandAck None legal tells = absurd (let z : ◌≡◌ {A = ℕ} 0 1 = cc in omega arith)
+carried_told TelecommandNack None legal tells = absurd (let z : ◌≡◌ {A = ℕ} 0 1 = cc in omega arith)
+carried_told TelemetryRequest None legal tells = refl
+carried_told TelemetryResponse None legal tells = refl
+carried_told TelemetryNack None legal tells = absurd (let z : ◌≡◌ {A = ℕ} 0 1 = cc in omega arith)
+carried_told Event None legal tells = refl
 
 -- A legal field stays so where the kind drops it: the ID, and what tells the error.
-carried_legal : (k : Kind) (id : ℕ) (e : ErrorByte) → id_legal k id ≡ true → error_legal k e ≡ true
+carried_legal : (k : Kind) (id : ℕ) (e : Option ℕ) → id_legal k id ≡ true → error_legal k e ≡ true
     → (id_legal k (cond (is_event k) 255 id) ≡ true) × (error_legal k (error_carried true k e) ≡ true)
 unfolding id_legal error_legal error_carried inside
 carried_legal Telecommand id e h legal = (h, refl)
@@ -126,7 +124,7 @@ bytes-again TelemetryNack id s t (x ∷ y ∷ d) h = refl
 bytes-again Event id s t d h = refl
 
 -- An error that was read is told.
-read_told : (k : Kind) (b : Bool) (e : ℕ) → error_told k (cond b (Told e) (Told 0)) ≡ true
+read_told : (k : Kind) (b : Bool) (e : ℕ) → error_told k (cond b (Some e) (Some 0)) ≡ true
 unfolding error_told
 read_told k true e = refl
 read_told k false e = refl

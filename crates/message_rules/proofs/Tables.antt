@@ -1,4 +1,5 @@
 -- The laws of the kinds' tables, by the kind.
+use Rattle.std.specs.Prelude.{None, Some}
 use Prim.Native.Nat.{ℕ, ◌≤◌}
 use mathlib.Core.Bool.{Bool, true, false, cond}
 use mathlib.Core.Path.{◌≡◌, refl, sym, ◌∙◌}
@@ -8,7 +9,6 @@ use lib.Dec.{eqb}
 use Rattle.message_rules.specs.Kinds.{error_length, type_number, type_kind, is_ack, is_nack, is_event, is_telecommand}
 use Rattle.message_rules.specs.declared.Kind.{Kind}
 use Rattle.message_rules.specs.declared.Kind.TheVariants.{Telecommand, TelecommandAck, TelecommandNack, TelemetryRequest, TelemetryResponse, TelemetryNack, Event}
-use Rattle.message_rules.specs.declared.KindLookup.TheVariants.{Known, Unknown}
 
 -- At most an error byte and an index tell the error.
 pub error_length_two : (k : Kind) → error_length k ≤ 2
@@ -58,7 +58,7 @@ telecommand_one TelemetryNack = refl
 telecommand_one Event = refl
 
 -- A kind's type stands for that kind, but an event's, which is none of 1..6.
-pub kind_of_type_lem : (k : Kind) → is_event k ≡ false → type_kind (type_number k) ≡ Known k
+pub kind_of_type_lem : (k : Kind) → is_event k ≡ false → type_kind (type_number k) ≡ Some k
 unfolding type_kind
 kind_of_type_lem Telecommand h = refl
 kind_of_type_lem TelecommandAck h = refl
@@ -77,7 +77,7 @@ by_row {A} {P} t n x rest y found others e = by (eqb t n) refl
     by false q = others (rw q at e)
 
 -- The kind that a number stands for has that number, and is no event.
-pub type_of_kind : (t : ℕ) (k : Kind) → type_kind t ≡ Known k → (type_number k ≡ t) × (is_event k ≡ false)
+pub type_of_kind : (t : ℕ) (k : Kind) → type_kind t ≡ Some k → (type_number k ≡ t) × (is_event k ≡ false)
 unfolding type_kind
 type_of_kind t k e =
     by_row t 1 _ _ _ (found Telecommand refl refl) (by_row t 2 _ _ _ (found TelecommandAck refl refl)
@@ -88,8 +88,8 @@ type_of_kind t k e =
     Found : Type 0
     Found = (type_number k ≡ t) × (is_event k ≡ false)
 
-    found : (k₁ : Kind) {n : ℕ} → type_number k₁ ≡ n → is_event k₁ ≡ false → t ≡ n → Known k₁ ≡ Known k → Found
+    found : (k₁ : Kind) {n : ℕ} → type_number k₁ ≡ n → is_event k₁ ≡ false → t ≡ n → Some k₁ ≡ Some k → Found
     found k₁ hn he ht f = let g : k ≡ k₁ = cc in rw g (hn ∙ sym ht, he)
 
-    none : Unknown ≡ Known k → Found
+    none : None ≡ Some k → Found
     none f = absurd (let z : ◌≡◌ {A = ℕ} 0 1 = cc in omega arith)

@@ -1,15 +1,9 @@
 -- The shape of every answer (document 01, "Refusal numbers"): refused with a number and every lent byte as it was, or bytes over
 -- the start of the lent output and the rest as it was. One set of definitions for every reader and writer of every link.
-use Rattle.std.specs.Prelude.{ℕ, Bool, true, false, List, ◌++◌, leb, length, drop}
+use Rattle.std.specs.Prelude.{ℕ, Bool, true, false, List, ◌++◌, leb, length, drop, Result, Ok, Err}
 use Rattle.message_rules.specs.declared.Message.{Message}
 use Rattle.message_rules.specs.declared.Refusal.{Refusal}
 use Rattle.message_rules.specs.declared.Refusal.TheVariants.{Truncated, UnknownStart, BrokenEscape, TrailingBytes, IdOutOfRange, WrongLength, IllegalValue, OutputTooShort, NotWritable, SeriesMismatch, IllegalFileSize, PartialRecord, IllegalMilliseconds, LogTooLong}
-use Rattle.message_rules.specs.declared.Verdict.{Verdict}
-use Rattle.message_rules.specs.declared.Verdict.TheVariants as VerdictOf
-use Rattle.message_rules.specs.declared.ReadAnswer.{ReadAnswer}
-use Rattle.message_rules.specs.declared.ReadAnswer.TheVariants as ReadAnswerOf
-use Rattle.message_rules.specs.declared.WriteAnswer.{WriteAnswer}
-use Rattle.message_rules.specs.declared.WriteAnswer.TheVariants as WriteAnswerOf
 
 -- "Refusal numbers": the table's number of each refusal; from 12 on, those of document 02's requests.
 abbrev pub refusal_number : Refusal → ℕ
@@ -81,19 +75,20 @@ written b = given tt b
 
 -- The documents' number and values for each case of the code's answers (document 01, "Forms we want to see": "this paper's number and values for
 -- each case").
-unfoldable pub verdict_result : Verdict → Check
-verdict_result VerdictOf.Passed = passed
-verdict_result (VerdictOf.Refused r) = failed (refusal_number r)
+unfoldable pub verdict_result : Result Unit Refusal → Check
+verdict_result (Ok u) = passed
+verdict_result (Err r) = failed (refusal_number r)
 
--- A verdict with a value beside it, which counts where it passed.
-unfoldable pub value_result : {A : Type 0} → Verdict → A → Answer A Unit
-value_result VerdictOf.Passed a = given a tt
-value_result (VerdictOf.Refused r) a = refused (refusal_number r)
+-- A value, or a refusal with no value.
+unfoldable pub value_result : {A : Type 0} → Result A Refusal → Answer A Unit
+value_result (Ok a) = given a tt
+value_result (Err r) = refused (refusal_number r)
 
-unfoldable pub read_result : ReadAnswer → Answer Message ℕ
-read_result (ReadAnswerOf.Refused r) = refused (refusal_number r)
-read_result (ReadAnswerOf.Message m n) = given m n
+-- A message, and the length of its payload.
+unfoldable pub read_result : Result (Message × ℕ) Refusal → Answer Message ℕ
+read_result (Ok (m, n)) = given m n
+read_result (Err r) = refused (refusal_number r)
 
-unfoldable pub write_result : WriteAnswer → Answer Unit ℕ
-write_result (WriteAnswerOf.Refused r) = refused (refusal_number r)
-write_result (WriteAnswerOf.Length n) = given tt n
+unfoldable pub write_result : Result ℕ Refusal → Answer Unit ℕ
+write_result (Ok n) = given tt n
+write_result (Err r) = refused (refusal_number r)

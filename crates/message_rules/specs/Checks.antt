@@ -1,11 +1,9 @@
 -- The checks of a message, in their order (document 01, "Refusal numbers"): 5, 6, 7 when it is read, 9, 5, 6, 7 when it is written. The 8
 -- comes last, with the lent output.
-use Rattle.std.specs.Prelude.{ℕ, ◌-◌, Bool, true, not, ◌&&◌, ◌||◌, cond, leb}
+use Rattle.std.specs.Prelude.{ℕ, ◌-◌, Bool, true, not, ◌&&◌, ◌||◌, cond, leb, None, Option, Some}
 use Rattle.message_rules.specs.Answer.{Check, passed, require}
 use Rattle.message_rules.specs.Kinds.{inside, id_range, payload_range, error_range, error_length, is_ack, is_nack, is_event}
 use Rattle.message_rules.specs.declared.Carries.{Carries}
-use Rattle.message_rules.specs.declared.ErrorByte.{ErrorByte}
-use Rattle.message_rules.specs.declared.ErrorByte.TheVariants.{Told, NotTold}
 use Rattle.message_rules.specs.declared.Kind.{Kind}
 use Rattle.message_rules.specs.declared.Message.{Message}
 
@@ -18,9 +16,9 @@ unfoldable pub payload_legal : Kind → ℕ → Bool
 payload_legal k n = inside (payload_range k) n
 
 -- "Not told" is no number: a nack may have it, an ack not, and the other kinds don't look.
-unfoldable pub error_legal : Kind → ErrorByte → Bool
-error_legal k (Told e) = inside (error_range k) e
-error_legal k NotTold = not (is_ack k)
+unfoldable pub error_legal : Kind → Option ℕ → Bool
+error_legal k (Some e) = inside (error_range k) e
+error_legal k None = not (is_ack k)
 
 -- 5 the ID is not of the kind's range, 6 wrong length for the kind, 7 ack error not 0, nack error not 1..10.
 unfoldable pub field_checks : Message → Bool → Check
@@ -31,9 +29,9 @@ field_checks m fits =
     passed))
 
 -- 9: an event where the link has none, a "not told" nack where the link carries the error byte.
-unfoldable pub error_told : Kind → ErrorByte → Bool
-error_told k (Told e) = true
-error_told k NotTold = not (is_nack k)
+unfoldable pub error_told : Kind → Option ℕ → Bool
+error_told k (Some e) = true
+error_told k None = not (is_nack k)
 
 unfoldable pub writable : Carries → Message → Bool
 writable l m = cond (is_event m.kind) l.events (not l.errors || error_told m.kind m.error)

@@ -1,14 +1,10 @@
 -- The seven kinds: which IDs, payload lengths and error bytes each has (document 01, "Messages"), and its type (document 01, "CAN and CSP"). Then
 -- which fields of a message arrive.
-use Rattle.std.specs.Prelude.{ℕ, Bool, true, false, ◌&&◌, cond, leb, eqb}
-use Rattle.message_rules.specs.declared.ErrorByte.{ErrorByte}
-use Rattle.message_rules.specs.declared.ErrorByte.TheVariants.{Told, NotTold}
+use Rattle.std.specs.Prelude.{ℕ, Bool, true, false, ◌&&◌, cond, leb, eqb, None, Option, Some}
 use Rattle.message_rules.specs.declared.Kind.{Kind}
 use Rattle.message_rules.specs.declared.Kind.TheVariants.{Telecommand, TelecommandAck, TelecommandNack, TelemetryRequest, TelemetryResponse, TelemetryNack, Event}
 use Rattle.message_rules.specs.declared.Message.{Message}
 use Rattle.message_rules.specs.declared.Range.{Range}
-use Rattle.message_rules.specs.declared.KindLookup.{KindLookup}
-use Rattle.message_rules.specs.declared.KindLookup.TheVariants.{Known, Unknown}
 
 infix 20 ◌to◌
 -- From the first number to the second, both included.
@@ -69,15 +65,15 @@ type_number TelemetryNack = 6
 type_number Event = 9
 
 -- The kind of one of the types 1..6.
-unfoldable pub type_kind : ℕ → KindLookup
+unfoldable pub type_kind : ℕ → Option Kind
 type_kind t =
-    cond (eqb t 1) (Known Telecommand)
-    (cond (eqb t 2) (Known TelecommandAck)
-    (cond (eqb t 3) (Known TelecommandNack)
-    (cond (eqb t 4) (Known TelemetryRequest)
-    (cond (eqb t 5) (Known TelemetryResponse)
-    (cond (eqb t 6) (Known TelemetryNack)
-    Unknown)))))
+    cond (eqb t 1) (Some Telecommand)
+    (cond (eqb t 2) (Some TelecommandAck)
+    (cond (eqb t 3) (Some TelecommandNack)
+    (cond (eqb t 4) (Some TelemetryRequest)
+    (cond (eqb t 5) (Some TelemetryResponse)
+    (cond (eqb t 6) (Some TelemetryNack)
+    None)))))
 
 -- Which kind it is. An ack has an error byte, a nack an error byte and an index.
 abbrev pub is_telecommand : Kind → Bool
@@ -119,8 +115,8 @@ is_event Event = true
 
 -- What tells the error, where the link carries it and where not: an ack has an error byte, a nack an index too. "CAN and CSP": a nack without
 -- them "reads as 'not told' with index 0".
-unfoldable pub error_carried : Bool → Kind → ErrorByte → ErrorByte
-error_carried errors k e = cond errors (cond (leb 1 (error_length k)) e (Told 0)) (cond (is_nack k) NotTold (Told 0))
+unfoldable pub error_carried : Bool → Kind → Option ℕ → Option ℕ
+error_carried errors k e = cond errors (cond (leb 1 (error_length k)) e (Some 0)) (cond (is_nack k) None (Some 0))
 
 unfoldable pub index_carried : Bool → Kind → ℕ → ℕ
 index_carried errors k i = cond (errors && leb 2 (error_length k)) i 0

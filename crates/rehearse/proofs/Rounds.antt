@@ -1,4 +1,5 @@
 -- What a rehearsal leaves after each turn, carried by the law of one round more; and its three ends.
+use Rattle.std.specs.Prelude.{Err, Ok, Result}
 use Prim.Native.Nat.{ℕ, ◌+◌, ◌-◌}
 use mathlib.Core.Bool.{Bool, true, false, not, ◌||◌}
 use mathlib.Core.List.{List}
@@ -8,8 +9,6 @@ use native.Mathlib.Omega.{arith}
 use borrow.Author.Tests.{eq-eqb}
 use Rattle.message_rules.specs.Answer.{verdict_result}
 use Rattle.message_rules.specs.declared.Refusal.{Refusal}
-use Rattle.message_rules.specs.declared.Verdict.{Verdict}
-use Rattle.message_rules.specs.declared.Verdict.TheVariants as VerdictOf
 use Rattle.device_rules.specs.declared.Device.{Device}
 use Rattle.round_rules.proofs.Rounds.{rest, made_more, refusal-more}
 use Rattle.round_rules.specs.Rounds.{nothing_sent, round_made, round_refusal, rounds_made, rounds_refusal}
@@ -23,11 +22,11 @@ use Rattle.rehearse.specs.declared.course.Course.{Course}
 use Rattle.rehearse.specs.declared.run.Ran.{Ran}
 
 -- Unit and sender after n rounds, and after n of which none was refused.
-abbrev pub ran : Device → Sender → Verdict → ℕ → Ran
+abbrev pub ran : Device → Sender → Result Unit Refusal → ℕ → Ran
 ran d s v n = record { device = d; sender = s; verdict = v; count = n }
 
 abbrev pub after : Device → Sender → ℕ → Ran
-after d s n = ran d s VerdictOf.Passed n
+after d s n = ran d s (Ok tt) n
 
 module _ (file : List ℕ) (d : Device) (store : List ℕ) (s : Sender) (c : Course) where
   pub none_made : Leaves file d store s c (after d s 0) store
@@ -36,7 +35,7 @@ module _ (file : List ℕ) (d : Device) (store : List ℕ) (s : Sender) (c : Cou
 
   -- A round more, passed or refused.
   pub one_more_lem : (d₁ : Device) (s₁ : Sender) (n : ℕ) (store₁ : List ℕ) → is_running s₁.state ≡ true → Leaves file d store s c (after d₁ s₁ n) store₁
-      → (d₂ : Device) (s₂ : Sender) (v : Verdict) (store₂ : List ℕ)
+      → (d₂ : Device) (s₂ : Sender) (v : Result Unit Refusal) (store₂ : List ℕ)
       → verdict_result v ≡ round_refusal (sending file) (nothing_sent d₁ store₁ s₁) (round_of c n)
       → d₂ ≡ (round_made (sending file) (nothing_sent d₁ store₁ s₁) (round_of c n)).device
       → s₂ ≡ (round_made (sending file) (nothing_sent d₁ store₁ s₁) (round_of c n)).requester
@@ -59,7 +58,7 @@ module _ (file : List ℕ) (d : Device) (store : List ℕ) (s : Sender) (c : Cou
       }
 
 -- The three ends.
-pub over-refused : (r : Ran) (f : Refusal) → r.verdict ≡ VerdictOf.Refused f → run_over r ≡ true
+pub over-refused : (r : Ran) (f : Refusal) → r.verdict ≡ Err f → run_over r ≡ true
 unfolding run_over verdict_result is_failed
 over-refused r f e = rw e
 

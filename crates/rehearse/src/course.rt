@@ -13,6 +13,7 @@ pub enum Course {
 }
 
 // The round of a turn, from 0.
+#[tactic(auto, unfolding(crate::specs::Course::round_of))]
 pub(crate) fn round(course: Course, turn: u32) -> Round
     ensures { result ≡ round_of course turn }
 {
@@ -25,6 +26,7 @@ pub(crate) fn round(course: Course, turn: u32) -> Round
     }
 }
 
+#[tactic(auto, unfolding(crate::specs::Course::mixed))]
 fn mixed(turn: u32) -> Round
     ensures { result ≡ mixed turn }
 {
@@ -34,17 +36,14 @@ fn mixed(turn: u32) -> Round
     }
 }
 
+#[tactic(auto, unfolding(crate::specs::Course::fate_of))]
 fn fate(place: u32) -> Fate
     ensures { result ≡ fate_of place }
 {
-    if place == 0 {
-        return Fate::AnswerLost;
+    match place {
+        0 => Fate::AnswerLost,
+        1 => Fate::Twice,
+        2 => Fate::RequestLost,
+        _ => Fate::Delivered,
     }
-    if place == 1 {
-        return Fate::Twice;
-    }
-    if place == 2 {
-        return Fate::RequestLost;
-    }
-    Fate::Delivered
 }

@@ -12,28 +12,26 @@ mod rehearsal;
 mod run;
 mod space;
 
-use input::Input;
+use course::Course;
 use link_rules::Link;
+use rehearsal::Rehearsal;
 use std::env::Env;
 use std::fs::Files;
 use std::io;
 use std::io::{IsTerminal, Print};
-use text_rules::NumberAnswer;
 
 // One byte more than a file may have, so that a file too long can be tried.
 const LONGEST: u32 = 16776961;
 
 fn main(rt: HostRuntime) -> io::Result<()> {
-    let mut bytes = space::space();
-    let mut kept = space::space();
-    let file: &mut [u8] = &mut bytes;
-    let store: &mut [u8] = &mut kept;
+    let mut file = space::space();
+    let mut store = space::space();
     let count = console::arg_count(&rt);
     if count < 2 {
         return print::usage(&rt);
     }
     for i in 1..count {
-        argument(&rt, &rt.stderr(), i, file, store)?;
+        argument(&rt, &rt.stderr(), i, &mut file, &mut store)?;
     }
     Ok(())
 }
@@ -48,7 +46,7 @@ fn argument(
     let mut word = console::buffer();
     match rt.arg(i, &mut word) {
         Ok(n) => one_word(rt, errors, &word[..n], file, store),
-        Err(_) => print::text(rt, b"a name of more than 4,096 bytes\n"),
+        Err(_) => println!(rt; "a name of more than 4,096 bytes"),
     }
 }
 
@@ -74,16 +72,13 @@ fn made_up(
     file: &mut [u8],
     store: &mut [u8],
 ) -> io::Result<()> {
-    match text_numbers::number(word, LONGEST) {
-        NumberAnswer::Value(size) => {
-            let bytes = space::front_mut(file, size as usize);
-            space::fill(bytes);
-            print::number(rt, size as u64)?;
-            print::text(rt, b" bytes\n")?;
-            every_link(rt, errors, bytes, store)
-        }
-        NumberAnswer::Bad => print::text(rt, b"bad length\n"),
-    }
+    let Some(size) = text_numbers::number(word, LONGEST) else {
+        return println!(rt; "bad length");
+    };
+    let bytes = space::front_mut(file, size as usize);
+    space::fill(bytes);
+    println!(rt; "{size} bytes")?;
+    every_link(rt, errors, bytes, store)
 }
 
 // The file of this name.
@@ -94,10 +89,10 @@ fn named(
     file: &mut [u8],
     store: &mut [u8],
 ) -> io::Result<()> {
-    print::text(rt, name)?;
+    rt.write_all(name)?;
     match input::read(rt, name, file) {
-        Input::Unread => print::text(rt, b": cannot be read\n"),
-        Input::Length(n) => length(rt, errors, n, space::front(file, n), store),
+        Ok(n) => length(rt, errors, space::front(file, n), store),
+        Err(_) => println!(rt; ": cannot be read"),
     }
 }
 
@@ -105,21 +100,19 @@ fn named(
 fn length(
     rt: &impl Print,
     errors: &(impl Print + IsTerminal),
-    n: usize,
     file: &[u8],
     store: &mut [u8],
 ) -> io::Result<()> {
+    let n = file.len();
     if n == 0 {
-        print::text(rt, b": empty, ")?;
-        return rehearsal::start_only(rt, Link::Uart, n);
+        print!(rt; ": empty, ")?;
+        return rehearsal::start_only(rt, n);
     }
     if n >= LONGEST as usize {
-        print::text(rt, b": more than 16,776,960 bytes, ")?;
-        return rehearsal::start_only(rt, Link::Uart, n);
+        print!(rt; ": more than 16,776,960 bytes, ")?;
+        return rehearsal::start_only(rt, n);
     }
-    print::text(rt, b": ")?;
-    print::number(rt, n as u64)?;
-    print::text(rt, b" bytes\n")?;
+    println!(rt; ": {n} bytes")?;
     every_link(rt, errors, file, store)
 }
 
@@ -129,8 +122,10 @@ fn every_link(
     file: &[u8],
     store: &mut [u8],
 ) -> io::Result<()> {
-    rehearsal::both(rt, errors, Link::Uart, b"uart", file, store)?;
-    rehearsal::both(rt, errors, Link::Rs485, b"rs485", file, store)?;
-    rehearsal::both(rt, errors, Link::Can, b"can", file, store)?;
-    rehearsal::both(rt, errors, Link::Csp, b"csp", file, store)
+    for link in [Link::Uart, Link::Rs485, Link::Can, Link::Csp] {
+        for course in [Course::Good, Course::Mixed] {
+            Rehearsal { link, course }.run(rt, errors, file, store)?;
+        }
+    }
+    Ok(())
 }

@@ -6,7 +6,7 @@ ghost use Rattle.rehearse.specs.Rounds.{Leaves, run_over};
 use crate::course::Course;
 use crate::{course, progress};
 use device::Device;
-use message_rules::Verdict;
+use message_rules::Refusal;
 use round_rules::State;
 use sender_rules::Sender;
 use std::io::{IsTerminal, Print};
@@ -19,7 +19,7 @@ const MOST: u32 = 13107050;
 pub struct Ran {
     pub device: Device,
     pub sender: Sender,
-    pub verdict: Verdict,
+    pub verdict: Result<(), Refusal>,
     pub count: u32,
 }
 
@@ -37,8 +37,10 @@ pub(crate) fn run(
 {
     let mut device = unit;
     let mut sender = first;
-    let mut count: u32 = 0;
-    while count < MOST && runs(sender) {
+    for count in 0..MOST {
+        if !runs(sender) {
+            return ended(device, sender, Ok(()), count);
+        }
         let rounded = upload_round::round(
             device,
             sender,
@@ -48,33 +50,28 @@ pub(crate) fn run(
         );
         device = rounded.device;
         sender = rounded.sender;
-        count += 1;
-        let verdict = rounded.verdict;
-        if let Verdict::Refused(_) = verdict {
-            return Ran {
-                device,
-                sender,
-                verdict,
-                count,
-            };
+        if let Err(refusal) = rounded.verdict {
+            return ended(device, sender, Err(refusal), count + 1);
         }
         progress::show(errors, sender);
     }
+    ended(device, sender, Ok(()), MOST)
+}
+
+fn ended(device: Device, sender: Sender, verdict: Result<(), Refusal>, count: u32) -> Ran
+    ensures { result ≡ record { device = device; sender = sender; verdict = verdict; count = count } }
+{
     Ran {
         device,
         sender,
-        verdict: Verdict::Passed,
+        verdict,
         count,
     }
 }
 
+#[tactic(auto, unfolding(round_rules::specs::Requester::is_running))]
 fn runs(sender: Sender) -> bool
     ensures { result ≡ is_running sender.state }
 {
-    let state = sender.state;
-    match state {
-        State::Running => true,
-        State::Finished => false,
-        State::GivenUp => false,
-    }
+    sender.state == State::Running
 }

@@ -11,8 +11,8 @@ pub(crate) fn space() -> [u8; SPACE]
 }
 
 pub(crate) fn fill(file: &mut [u8]) {
-    for i in 0..file.len() {
-        file[i] = byte_at(i);
+    for (i, byte) in file.iter_mut().enumerate() {
+        *byte = byte_at(i);
     }
 }
 
@@ -27,22 +27,15 @@ fn byte_at(i: usize) -> u8 {
 
 // What no upload stored.
 pub(crate) fn clear(store: &mut [u8]) {
-    for i in 0..store.len() {
-        store[i] = 0xA5;
-    }
+    store.fill(0xA5);
 }
 
 // The first n bytes, or all where there are fewer.
 pub(crate) fn front(bytes: &[u8], n: usize) -> &[u8] {
-    if n <= bytes.len() {
-        return &bytes[..n];
-    }
-    bytes
+    bytes.get(..n).unwrap_or(bytes)
 }
 
 pub(crate) fn front_mut(bytes: &mut [u8], n: usize) -> &mut [u8] {
-    if n <= bytes.len() {
-        return &mut bytes[..n];
-    }
-    bytes
+    let n = n.min(bytes.len());
+    &mut bytes[..n]
 }

@@ -4,58 +4,29 @@
 
 mod call;
 mod events;
-mod input;
-mod keep;
-mod line;
+mod lines;
+mod names;
 mod plain;
 mod print;
-mod records;
 mod round;
-mod runner;
+mod run;
 mod sending;
+mod state;
 mod unit;
-mod word;
+mod words;
 
-use std::env::Env;
-use std::fs::Files;
+use console::Program;
 use std::io;
-use std::io::{Input, Print};
+use std::io::{Print, Read};
+
+struct Replay;
+
+impl Program for Replay {
+    fn run(&self, out: &impl Print, script: &mut impl Read) -> io::Result<()> {
+        run::run(out, script)
+    }
+}
 
 fn main(rt: HostRuntime) -> io::Result<()> {
-    let count = console::arg_count(&rt);
-    if count < 2 {
-        return runner::run(&rt, &mut rt.reader());
-    }
-    for i in 1..count {
-        run_argument(&rt, &rt.stderr(), i)?;
-    }
-    Ok(())
-}
-
-fn run_argument(
-    rt: &(impl Env + Files + Input + Print),
-    errors: &impl Print,
-    i: usize,
-) -> io::Result<()> {
-    let mut name = console::buffer();
-    let length = console::arg(rt, i, &mut name);
-    if &name[..length] == b"-".as_slice() {
-        return runner::run(rt, &mut rt.reader());
-    }
-    run_file(rt, errors, &name[..length])
-}
-
-// A file's script, under the file's name.
-fn run_file(rt: &(impl Files + Print), errors: &impl Print, name: &[u8]) -> io::Result<()> {
-    match console::open(rt, name) {
-        Ok(mut file) => {
-            rt.write_all(name)?;
-            rt.write_all(b"\n")?;
-            runner::run(rt, &mut file)
-        }
-        Err(error) => {
-            console::fail(errors, name, error);
-            Ok(())
-        }
-    }
+    console::run(&rt, &rt.stderr(), &Replay)
 }

@@ -1,79 +1,81 @@
 // What replay prints.
-use crate::input::front;
-use crate::word::{KINDS, NAMES};
-use device::{Device, Phase};
+use crate::names;
+use crate::state::Unit;
+use device::Device;
 use event_rules::{EventRecord, EventReport};
-use file_rules::Job;
-use message_rules::{ErrorByte, Kind, Message, Refusal};
+use message_rules::{Message, Refusal};
 use round_rules::State;
-use sender_rules::{Sender, Stage};
-use std::io;
+use sender_rules::Sender;
 use std::io::Print;
-use text_rules::HexAnswer;
+use std::{fmt, io, str};
 
-pub(crate) fn text(rt: &impl Print, bytes: &[u8]) -> io::Result<()> {
-    rt.write_all(bytes)
+// A byte string in hexadecimal digits, of at most 4,096 bytes.
+#[derive(Clone, Copy)]
+pub(crate) struct Hex<'a>(pub &'a [u8]);
+
+impl fmt::Display for Hex<'_> {
+    fn fmt<W: fmt::Write>(&self, f: &mut fmt::Formatter<W>) -> fmt::Result {
+        let mut space = [0u8; 8192];
+        let length = text_hex::write_hex(self.0, &mut space).unwrap_or(0);
+        match space.get(..length) {
+            Some(digits) => f.write_str(str::from_utf8(digits).unwrap_or("")),
+            None => Ok(()),
+        }
+    }
 }
 
-pub(crate) fn decimal(rt: &impl Print, n: usize) -> io::Result<()> {
-    rt.print(n)
+// A number, `-` where there is none.
+#[derive(Clone, Copy)]
+struct OrDash(Option<u32>);
+
+impl fmt::Display for OrDash {
+    fn fmt<W: fmt::Write>(&self, f: &mut fmt::Formatter<W>) -> fmt::Result {
+        match self.0 {
+            Some(n) => write!(f, "{n}"),
+            None => write!(f, "-"),
+        }
+    }
 }
 
-// ` N`, a number after another word.
-fn number(rt: &impl Print, n: usize) -> io::Result<()> {
-    text(rt, b" ")?;
-    decimal(rt, n)
+// The first n bytes of a lent output, or all where there are fewer.
+pub(crate) fn front(space: &mut [u8], n: usize) -> &mut [u8] {
+    let n = n.min(space.len());
+    &mut space[..n]
 }
 
-fn next(rt: &impl Print, n: u8) -> io::Result<()> {
-    number(rt, n as usize)
-}
-
-// `WORD N`
-pub(crate) fn counted(rt: &impl Print, word: &[u8], n: usize) -> io::Result<()> {
-    text(rt, word)?;
-    number(rt, n)
+pub(crate) fn text(rt: &impl Print, text: &str) -> io::Result<()> {
+    print!(rt; "{text}")
 }
 
 // ` OUT`: a lent output, whole.
 pub(crate) fn output(rt: &impl Print, out: &[u8]) -> io::Result<()> {
-    text(rt, b" ")?;
-    bytes(rt, out)
+    print!(rt; " {}", Hex(out))
 }
 
 // ` OUT`, and the line's end.
 pub(crate) fn last(rt: &impl Print, out: &[u8]) -> io::Result<()> {
-    output(rt, out)?;
-    end_line(rt)
-}
-
-// A byte string, of at most 4,096 bytes.
-pub(crate) fn bytes(rt: &impl Print, bytes: &[u8]) -> io::Result<()> {
-    let mut space = [0u8; 8192];
-    if let HexAnswer::Length(n) = text_hex::write_hex(bytes, &mut space) {
-        return text(rt, front(&space, n));
-    }
-    Ok(())
-}
-
-pub(crate) fn colon(rt: &impl Print) -> io::Result<()> {
-    text(rt, b":")
+    println!(rt; " {}", Hex(out))
 }
 
 pub(crate) fn end_line(rt: &impl Print) -> io::Result<()> {
-    text(rt, b"\n")
+    println!(rt; "")
 }
 
 pub(crate) fn ok_line(rt: &impl Print) -> io::Result<()> {
-    text(rt, b"ok\n")
+    println!(rt; "ok")
 }
 
+// A call that needs a unit or a sender, where there is none.
 pub(crate) fn none_line(rt: &impl Print) -> io::Result<()> {
-    text(rt, b"none\n")
+    println!(rt; "none")
 }
 
 pub(crate) fn bad_line(rt: &impl Print) -> io::Result<()> {
-    text(rt, b"bad line\n")
+    println!(rt; "bad line")
+}
+
+pub(crate) fn refused(rt: &impl Print, refusal: Refusal) -> io::Result<()> {
+    print!(rt; "refused {}", message_fields::refusal_number(refusal))
 }
 
 pub(crate) fn refused_line(rt: &impl Print, refusal: Refusal) -> io::Result<()> {
@@ -81,146 +83,84 @@ pub(crate) fn refused_line(rt: &impl Print, refusal: Refusal) -> io::Result<()> 
     end_line(rt)
 }
 
-pub(crate) fn refused(rt: &impl Print, refusal: Refusal) -> io::Result<()> {
-    counted(
-        rt,
-        b"refused",
-        message_fields::refusal_number(refusal) as usize,
-    )
-}
-
-// ` PHASE NUMBER BUFFERED CHECKSUM PENDING STORED SIZE JOB LAST` of a unit.
-pub(crate) fn unit(rt: &impl Print, unit: Device) -> io::Result<()> {
-    let transfer = unit.transfer;
-    let phase = transfer.phase;
-    phase_name(rt, phase)?;
-    number(rt, transfer.number as usize)?;
-    let buffer = transfer.buffer;
-    frame(rt, front(&buffer, transfer.buffered as usize))?;
-    next(rt, transfer.pending as u8)?;
-    number(rt, transfer.stored as usize)?;
-    number(rt, transfer.size as usize)?;
-    let open = transfer.job;
-    job(rt, open)?;
-    let last = unit.finished;
-    job(rt, last)
-}
-
-fn job(rt: &impl Print, job: Job) -> io::Result<()> {
-    match job {
-        Job::None => text(rt, b" -"),
-        Job::Number(n) => number(rt, n as usize),
-    }
-}
-
-fn phase_name(rt: &impl Print, phase: Phase) -> io::Result<()> {
-    match phase {
-        Phase::Idle => text(rt, b" idle"),
-        Phase::Open => text(rt, b" open"),
-        Phase::Finished => text(rt, b" finished"),
-    }
-}
-
-// ` BUFFERED CHECKSUM`
-fn frame(rt: &impl Print, bytes: &[u8]) -> io::Result<()> {
-    number(rt, bytes.len())?;
-    number(rt, file_checksum::checksum(bytes) as usize)
-}
-
-// ` STATE STAGE FRAME SINCE ROUNDS KNOWN` of a sender.
-pub(crate) fn sender(rt: &impl Print, sender: Sender) -> io::Result<()> {
-    let state = sender.state;
-    match state {
-        State::Running => running(rt, sender)?,
-        State::Finished => text(rt, b" finished - - -")?,
-        State::GivenUp => text(rt, b" given-up - - -")?,
-    }
-    number(rt, sender.rounds as usize)?;
-    number(rt, sender::frames_known(sender) as usize)
-}
-
-fn running(rt: &impl Print, sender: Sender) -> io::Result<()> {
-    text(rt, b" running ")?;
-    let stage = sender.stage;
-    text(rt, &[letter(stage)])?;
-    number(rt, sender.frame as usize)?;
-    next(rt, sender.since)
-}
-
-fn letter(stage: Stage) -> u8 {
-    match stage {
-        Stage::Setup => b'S',
-        Stage::Frame => b'A',
-        Stage::Back => b'A',
-        Stage::Compare => b'B',
-        Stage::Take => b'C',
-        Stage::Confirm => b'D',
+// How many bytes or records a writer answers.
+pub(crate) fn count(rt: &impl Print, written: Result<usize, Refusal>) -> io::Result<()> {
+    match written {
+        Ok(n) => print!(rt; "{n}"),
+        Err(refusal) => refused(rt, refusal),
     }
 }
 
 // `KIND ID SOURCE DESTINATION ERROR INDEX LENGTH`.
-pub(crate) fn message(rt: &impl Print, message: Message, length: usize) -> io::Result<()> {
-    let kind = message.kind;
-    text(rt, text_words::word(&NAMES, place(kind)))?;
-    next(rt, message.id)?;
-    next(rt, message.source)?;
-    next(rt, message.destination)?;
-    let error = message.error;
-    error_byte(rt, error)?;
-    next(rt, message.index)?;
-    number(rt, length)
+pub(crate) fn message(rt: &impl Print, message: &Message, length: usize) -> io::Result<()> {
+    let name = names::of_kind(message.kind);
+    print!(rt;
+        "{name} {} {} {} ",
+        message.id, message.source, message.destination
+    )?;
+    match message.error {
+        Some(error) => print!(rt; "{error}")?,
+        None => print!(rt; "?")?,
+    }
+    print!(rt; " {} {length}", message.index)
 }
 
-fn error_byte(rt: &impl Print, error: ErrorByte) -> io::Result<()> {
-    match error {
-        ErrorByte::Told(e) => next(rt, e),
-        ErrorByte::NotTold => text(rt, b" ?"),
-    }
+// ` PHASE NUMBER BUFFERED CHECKSUM PENDING STORED SIZE JOB LAST` of a unit.
+pub(crate) fn unit(rt: &impl Print, device: &Device) -> io::Result<()> {
+    let transfer = &device.transfer;
+    let length = device_state::buffered_length(*transfer);
+    let frame = transfer.buffer.get(..length).unwrap_or(&transfer.buffer);
+    print!(rt; " {} {}", names::of_phase(transfer.phase), transfer.number)?;
+    print!(rt;
+        " {} {} {}",
+        frame.len(),
+        file_checksum::checksum(frame),
+        transfer.pending as u8
+    )?;
+    print!(rt; " {} {}", transfer.stored, transfer.size)?;
+    print!(rt; " {} {}", OrDash(transfer.job), OrDash(device.finished))
 }
 
-// Of a kind's name among all.
-fn place(kind: Kind) -> usize {
-    match kind {
-        Kind::Telecommand => KINDS,
-        Kind::TelecommandAck => KINDS + 1,
-        Kind::TelecommandNack => KINDS + 2,
-        Kind::TelemetryRequest => KINDS + 3,
-        Kind::TelemetryResponse => KINDS + 4,
-        Kind::TelemetryNack => KINDS + 5,
-        Kind::Event => KINDS + 6,
+// ` STATE STAGE FRAME SINCE ROUNDS KNOWN` of a sender.
+pub(crate) fn sender(rt: &impl Print, sender: &Sender) -> io::Result<()> {
+    print!(rt; " {}", names::of_state(sender.state))?;
+    match sender.state {
+        State::Running => {
+            print!(rt;
+                " {} {} {}",
+                names::of_stage(sender.stage),
+                sender.frame,
+                sender.since
+            )?
+        }
+        State::Finished | State::GivenUp => print!(rt; " - - -")?,
     }
+    print!(rt; " {} {}", sender.rounds, sender::frames_known(*sender))
 }
 
 // `COUNTER UPTIME UNIX MILLISECONDS IDENTIFIER DATA`
-pub(crate) fn event(rt: &impl Print, event: EventRecord) -> io::Result<()> {
-    decimal(rt, event.counter as usize)?;
-    number(rt, event.uptime as usize)?;
-    number(rt, event.seconds as usize)?;
-    number(rt, event.milliseconds as usize)?;
-    number(rt, event.identifier as usize)?;
-    let data = event.data;
-    output(rt, &data)
+pub(crate) fn event(rt: &impl Print, event: &EventRecord) -> io::Result<()> {
+    print!(rt; "{} {} {}", event.counter, event.uptime, event.seconds)?;
+    print!(rt;
+        " {} {} {}",
+        event.milliseconds,
+        event.identifier,
+        Hex(&event.data)
+    )
 }
 
 // Four counts of classes, 32 of sources, and that of the records that are earlier.
-pub(crate) fn report(rt: &impl Print, report: EventReport) -> io::Result<()> {
-    let classes = report.classes;
-    let sources = report.sources;
-    decimal(rt, classes[0] as usize)?;
-    count(rt, classes[1])?;
-    count(rt, classes[2])?;
-    count(rt, classes[3])?;
-    source_counts(rt, sources)?;
-    count(rt, report.earlier)
+pub(crate) fn report(rt: &impl Print, report: &EventReport) -> io::Result<()> {
+    let classes = &report.classes;
+    print!(rt; "{}", classes[0])?;
+    counts(rt, &classes[1..])?;
+    counts(rt, &report.sources)?;
+    print!(rt; " {}", report.earlier)
 }
 
-fn count(rt: &impl Print, n: u32) -> io::Result<()> {
-    number(rt, n as usize)
-}
-
-fn source_counts(rt: &impl Print, sources: [u32; 32]) -> io::Result<()> {
-    for i in 0..32 {
-        count(rt, sources[i])?;
+fn counts(rt: &impl Print, counts: &[u32]) -> io::Result<()> {
+    for count in counts {
+        print!(rt; " {count}")?;
     }
     Ok(())
 }

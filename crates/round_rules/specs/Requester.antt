@@ -1,7 +1,6 @@
 -- The side that asks the unit, as far as whole runs need to know it (document 01, "The sender and its rounds"). The sender of an upload is one.
-use Rattle.std.specs.Prelude.{ℕ, Bool, true, false, List}
+use Rattle.std.specs.Prelude.{ℕ, Bool, true, false, List, Option}
 use Rattle.message_rules.specs.Answer.{Answer}
-use Rattle.file_rules.specs.declared.Job.{Job}
 use Rattle.link_rules.specs.declared.Link.{Link}
 use Rattle.round_rules.specs.declared.State.{State}
 use Rattle.round_rules.specs.declared.State.TheVariants.{Running, Finished, GivenUp}
@@ -36,7 +35,7 @@ pub record Starting : Type 0 where
   pub source : ℕ
   pub destination : ℕ
   pub size : ℕ
-  pub job : Job
+  pub job : Option ℕ
 
 -- Its rules, over its state: starting it, its request, its answer call with the answer's bytes, [] for none, and whether it runs, has finished
 -- or has given up.

@@ -7,7 +7,7 @@
 #![tactic(auto)]
 
 // Document 01's "finished or given up"; until then it runs.
-#[derive(Clone, Copy)]
+#[derive(Clone, Copy, PartialEq, Eq)]
 pub enum State {
     Running,
     Finished,

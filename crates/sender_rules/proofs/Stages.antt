@@ -1,4 +1,5 @@
 -- The papers' sentences on the stages, each a law of the definitions: carried by computing them from what the sentence supposes.
+use Rattle.std.specs.Prelude.{None, Some}
 use Prim.Native.Nat.{ℕ, ◌+◌, ◌<◌}
 use mathlib.Core.Bool.{true, false}
 use mathlib.Core.List.{List, []}
@@ -8,13 +9,11 @@ use borrow.Author.Tests.{eq-eqb, ne_eqb, lt-ltb, le-ltb}
 use lib.ListN.{length}
 use Rattle.message_rules.specs.Answer.{given}
 use Rattle.message_rules.specs.Kinds.{error_carried}
-use Rattle.message_rules.specs.declared.ErrorByte.TheVariants.{Told, NotTold}
 use Rattle.message_rules.specs.declared.Kind.TheVariants.{TelecommandAck, TelecommandNack, TelemetryResponse}
 use Rattle.message_rules.specs.declared.Message.{Message}
 use Rattle.file_rules.specs.Checksum.{checksum}
 use Rattle.file_rules.specs.Detection.{with_two}
 use Rattle.file_rules.specs.File.{frame_count, file_frame}
-use Rattle.file_rules.specs.declared.Job.TheVariants.{None, Number}
 use Rattle.file_rules.proofs.Frames.{frame-most}
 use Rattle.file_rules.proofs.Exchanged.{exchanged_detected}
 use Rattle.link_rules.specs.Link.{link_read, carries_error}
@@ -32,7 +31,7 @@ use Rattle.sender_rules.specs.declared.Stage.TheVariants.{Setup, Frame, Back, Co
 
 -- "A sender started with a job number has one stage before frame 0's A" (document 02, ticket 5), and one without begins there.
 module _ (l : Link) (source destination n : ℕ) where
-  pub job-begins : (number : ℕ) → (new_sender l source destination n (Number number)).stage ≡ Setup
+  pub job-begins : (number : ℕ) → (new_sender l source destination n (Some number)).stage ≡ Setup
   unfolding new_sender
   job-begins number = refl
 
@@ -68,20 +67,20 @@ module _ (s : Sender) (file : List ℕ) (m : Message) (p : List ℕ) (fit : fits
   unfolding meaning kind_meaning ack_meaning round_over advanced
   acked_d at kind = rw (fit, kind, at)
 
-  pub nacked_three : s.stage ≡ Take → m.kind ≡ TelecommandNack → m.error ≡ Told 3 → next.stage ≡ Confirm
+  pub nacked_three : s.stage ≡ Take → m.kind ≡ TelecommandNack → m.error ≡ Some 3 → next.stage ≡ Confirm
   unfolding meaning kind_meaning nack_meaning taken_error round_over advanced
   nacked_three at kind error = rw (fit, kind, at, error)
 
-  pub nacked_six : s.stage ≡ Take → m.kind ≡ TelecommandNack → m.error ≡ Told 6 → next.stage ≡ Confirm
+  pub nacked_six : s.stage ≡ Take → m.kind ≡ TelecommandNack → m.error ≡ Some 6 → next.stage ≡ Confirm
   unfolding meaning kind_meaning nack_meaning taken_error round_over advanced
   nacked_six at kind error = rw (fit, kind, at, error)
 
-  pub nacked-not-told : s.stage ≡ Take → m.kind ≡ TelecommandNack → m.error ≡ NotTold → next.stage ≡ Confirm
+  pub nacked-not-told : s.stage ≡ Take → m.kind ≡ TelecommandNack → m.error ≡ None → next.stage ≡ Confirm
   unfolding meaning kind_meaning nack_meaning taken_error round_over advanced
   nacked-not-told at kind error = rw (fit, kind, at, error)
 
   -- And no other nack: "any other answer [..]: stays".
-  pub nacked-other : (e : ℕ) → s.stage ≡ Take → m.kind ≡ TelecommandNack → m.error ≡ Told e → (e ≡ 3 → ⊥) → (e ≡ 6 → ⊥) → next.stage ≡ Take
+  pub nacked-other : (e : ℕ) → s.stage ≡ Take → m.kind ≡ TelecommandNack → m.error ≡ Some e → (e ≡ 3 → ⊥) → (e ≡ 6 → ⊥) → next.stage ≡ Take
   unfolding meaning kind_meaning nack_meaning taken_error round_over waited
   nacked-other e at kind error three six = rw (fit, kind, at, error, ne_eqb e 3 three, ne_eqb e 6 six)
 
@@ -137,7 +136,7 @@ unfolding meaning
 nothing-heard l s file = rw (no_bytes l)
 
 -- A nack 3 or 6 tells the sender on every link that its frame was taken: CAN's tells no number.
-pub taken_on : (l : Link) (e : ℕ) → taken_error (Told e) ≡ true → taken_error (error_carried (carries_error l) TelecommandNack (Told e)) ≡ true
+pub taken_on : (l : Link) (e : ℕ) → taken_error (Some e) ≡ true → taken_error (error_carried (carries_error l) TelecommandNack (Some e)) ≡ true
 unfolding error_carried taken_error
 taken_on Uart e h = h
 taken_on Rs485 e h = h

@@ -1,5 +1,6 @@
 -- What a round counts: each case of it, by the steps of its stages. So a sender has had at most the rounds since its last step and fifty for each
 -- step, by arithmetic.
+use Rattle.std.specs.Prelude.{None, Option, Some, ℕ}
 use Prim.Native.Nat.{ℕ, ◌+◌, ◌*◌, ◌%◌, ◌≤◌, ◌<◌}
 use mathlib.Core.Bool.{Bool, true, false, cond, ◌&&◌}
 use mathlib.Core.List.{List}
@@ -10,14 +11,11 @@ use lib.Dec.{ltb, eqb}
 use lib.ListN.{length}
 use Rattle.message_rules.proofs.Answers.{after-given}
 use Rattle.message_rules.specs.Answer.{Answer, refused, given}
-use Rattle.message_rules.specs.declared.ErrorByte.{ErrorByte}
 use Rattle.message_rules.specs.declared.Kind.{Kind}
 use Rattle.message_rules.specs.declared.Kind.TheVariants as KindOf
 use Rattle.message_rules.specs.declared.Message.{Message}
 use Rattle.file_rules.specs.Checksum.{checksum}
 use Rattle.file_rules.specs.File.{file_frame}
-use Rattle.file_rules.specs.declared.Job.{Job}
-use Rattle.file_rules.specs.declared.Job.TheVariants as JobOf
 use Rattle.link_rules.specs.Link.{link_read}
 use Rattle.link_rules.specs.declared.Link.{Link}
 use Rattle.round_rules.specs.Requester.{is_running}
@@ -72,7 +70,7 @@ ack_possible Compare = tt
 ack_possible Take = tt
 ack_possible Confirm = tt
 
-nack_possible : (stage : Stage) (e : ErrorByte) → Possible (nack_meaning stage e) stage
+nack_possible : (stage : Stage) (e : Option ℕ) → Possible (nack_meaning stage e) stage
 unfolding nack_meaning
 nack_possible Setup e = tt
 nack_possible Frame e = tt
@@ -100,16 +98,16 @@ ended_clash : {P : Type 0} → false ≡ true → P
 ended_clash e = absurd (let z : ◌≡◌ {A = ℕ} 0 1 = cc in omega arith)
 
 -- A sender at the stage before A has a job. That holds of every sender that was started, whatever it heard.
-abbrev pub JobAt : Stage → Job → Type 0
-JobAt Setup JobOf.None = ⊥
-JobAt Setup (JobOf.Number n) = Unit
+abbrev pub JobAt : Stage → Option ℕ → Type 0
+JobAt Setup None = ⊥
+JobAt Setup (Some n) = Unit
 JobAt Frame job = Unit
 JobAt Back job = Unit
 JobAt Compare job = Unit
 JobAt Take job = Unit
 JobAt Confirm job = Unit
 
-module _ (l : Link) (source destination n : ℕ) (job : Job) (f since rounds : ℕ) (x : State) (on : x ≡ Running) where
+module _ (l : Link) (source destination n : ℕ) (job : Option ℕ) (f since rounds : ℕ) (x : State) (on : x ≡ Running) where
   abbrev at_stage : Stage → Sender
   at_stage stage = sender_at l source destination n job f stage since rounds x
 
@@ -123,10 +121,10 @@ module _ (l : Link) (source destination n : ℕ) (job : Job) (f since rounds : �
       by false e = rw (e, on) (none refl refl (omega (arith, same)) (λ r. ended_clash r))
 
   -- and with the answer that the stage waits for: first the setup's ack, of a sender with a job.
-  first : (j : Job) → job ≡ j → JobAt Setup j → Counts (at_stage Setup) (round_over (at_stage Setup) Forward)
+  first : (j : Option ℕ) → job ≡ j → JobAt Setup j → Counts (at_stage Setup) (round_over (at_stage Setup) Forward)
   unfolding round_over advanced steps
-  first JobOf.None e j = elim j [ ]
-  first (JobOf.Number n) e j = rw (on, e) (step refl refl (omega arith))
+  first None e j = elim j [ ]
+  first (Some n) e j = rw (on, e) (step refl refl (omega arith))
 
   forward : (stage : Stage) → JobAt stage job → Counts (at_stage stage) (round_over (at_stage stage) Forward)
   unfolding round_over advanced steps
@@ -190,10 +188,10 @@ pub record RoundsWithin (s : Sender) : Type 0 where
   pub few : is_running s.state ≡ true → s.since < 50
   pub job : JobAt s.stage s.job
 
-pub start-within : (l : Link) (source destination n : ℕ) (job : Job) → RoundsWithin (new_sender l source destination n job)
+pub start-within : (l : Link) (source destination n : ℕ) (job : Option ℕ) → RoundsWithin (new_sender l source destination n job)
 unfolding new_sender steps
-start-within l source destination n JobOf.None = record { most = omega arith; few = λ e. omega arith; job = tt }
-start-within l source destination n (JobOf.Number j) = record { most = omega arith; few = λ e. omega arith; job = tt }
+start-within l source destination n None = record { most = omega arith; few = λ e. omega arith; job = tt }
+start-within l source destination n (Some j) = record { most = omega arith; few = λ e. omega arith; job = tt }
 
 counts-within : (s s' : Sender) → s.since < 50 → s.rounds ≤ s.since + 50 * steps s → JobAt s'.stage s'.job → Counts s s' → RoundsWithin s'
 unfolding one_more

@@ -1,16 +1,12 @@
 -- What an answer means to the sender, and what a round does to it (document 01, "The sender and its rounds").
-use Rattle.std.specs.Prelude.{ℕ, ◌+◌, ◌*◌, ◌/◌, ◌%◌, min, Bool, true, false, cond, not, ◌&&◌, ◌||◌, List, ltb, eqb, length, get_or, take, drop}
+use Rattle.std.specs.Prelude.{ℕ, ◌+◌, ◌*◌, ◌/◌, ◌%◌, min, Bool, true, false, cond, not, ◌&&◌, ◌||◌, List, ltb, eqb, length, get_or, take, drop, None, Option, Some}
 use Rattle.message_rules.specs.Answer.{Answer, refused, given, after}
-use Rattle.message_rules.specs.declared.ErrorByte.{ErrorByte}
-use Rattle.message_rules.specs.declared.ErrorByte.TheVariants.{Told, NotTold}
 use Rattle.message_rules.specs.declared.Kind.{Kind}
 use Rattle.message_rules.specs.declared.Kind.TheVariants as KindOf
 use Rattle.message_rules.specs.declared.Message.{Message}
 use Rattle.little_endian_rules.specs.LittleEndian.{from_bytes}
 use Rattle.file_rules.specs.Checksum.{checksum}
 use Rattle.file_rules.specs.File.{frame_count, file_frame}
-use Rattle.file_rules.specs.declared.Job.{Job}
-use Rattle.file_rules.specs.declared.Job.TheVariants.{None, Number}
 use Rattle.link_rules.specs.Link.{link_read, carries_addresses}
 use Rattle.sender_rules.specs.Sender.{request_id, same_file}
 use Rattle.round_rules.specs.Requester.{is_running}
@@ -30,9 +26,9 @@ fits s m =
     && (not (carries_addresses s.link) || (eqb m.destination s.source && eqb m.source s.destination))
 
 -- C: "ack, nack 3, nack 6 or 'not told' nack".
-unfoldable pub taken_error : ErrorByte → Bool
-taken_error (Told e) = eqb e 3 || eqb e 6
-taken_error NotTold = true
+unfoldable pub taken_error : Option ℕ → Bool
+taken_error (Some e) = eqb e 3 || eqb e 6
+taken_error None = true
 
 -- The parts of a frame info of seven bytes.
 abbrev pub info_number : List ℕ → ℕ
@@ -69,7 +65,7 @@ ack_meaning Compare = Stay
 ack_meaning Take = Forward
 ack_meaning Confirm = Stay
 
-unfoldable pub nack_meaning : Stage → ErrorByte → Meaning
+unfoldable pub nack_meaning : Stage → Option ℕ → Meaning
 nack_meaning Setup e = Stay
 nack_meaning Frame e = Stay
 nack_meaning Back e = Stay
@@ -127,12 +123,12 @@ is_step Take = true
 is_step Confirm = true
 
 -- The steps forward in front of frame 0's A: with a job the arrival there is one.
-abbrev pub job_steps : Job → ℕ
+abbrev pub job_steps : Option ℕ → ℕ
 job_steps None = 0
-job_steps (Number n) = 1
+job_steps (Some n) = 1
 
 -- Those, and the steps forward in a frame before each stage of it. A again comes after B.
-abbrev pub stage_steps : Job → Stage → ℕ
+abbrev pub stage_steps : Option ℕ → Stage → ℕ
 stage_steps job Setup = 0
 stage_steps job Frame = job_steps job
 stage_steps job Back = job_steps job + 1

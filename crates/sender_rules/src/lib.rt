@@ -6,14 +6,12 @@
 // laws of them, and `proofs/Steps.antt` what rounds count.
 #![tactic(auto)]
 
-use file_rules::Job;
 use link_rules::Link;
-use message_rules::Refusal;
 use round_rules::State;
 
 // The four stages of a frame, with document 01's letter for each, and document 02's "one stage before frame 0's A", which a sender with a job begins
 // at. `Back` is A after a frame info at B that differed: the next arrival at B is then no step forward.
-#[derive(Clone, Copy)]
+#[derive(Clone, Copy, PartialEq, Eq)]
 pub enum Stage {
     // The stage before frame 0's A: sends setup.
     Setup,
@@ -38,7 +36,7 @@ pub struct Sender {
     // The file's size: document 01's "length".
     pub size: u32,
     // The job that it was started with, if any.
-    pub job: Job,
+    pub job: Option<u32>,
     // The frame that it is at, from 0, and the stage of it.
     pub frame: u32,
     pub stage: Stage,
@@ -59,20 +57,4 @@ pub enum Meaning {
     Differs,
     // The error flag.
     Flagged,
-}
-
-// The answer of asking for a request: its length at the start of the lent output, or nothing once the sender has ended. A refusal leaves
-// the output as it came.
-#[derive(Clone, Copy)]
-pub enum RequestAnswer {
-    Request(usize),
-    Nothing,
-    Refused(Refusal),
-}
-
-// The answer of `start` and of `hear`: the sender afterwards. A refusal leaves it as it came.
-#[derive(Clone, Copy)]
-pub enum SenderAnswer {
-    Sender(Sender),
-    Refused(Refusal),
 }

@@ -4,89 +4,63 @@
 mod table;
 
 ghost use Rattle.std.specs.Prelude.{◌≡◌};
-ghost use Rattle.sender_rules.specs.Hearing.{is_step, changed, one_more, waited, advanced, round_over};
+ghost use Rattle.sender_rules.specs.Hearing.{changed, one_more, waited, advanced, round_over};
 
 use round_rules::State;
 use sender_rules::{Meaning, Sender, Stage};
 
-// The sender after a round with an answer that means this.
+// The sender after a round with an answer that means this. The error flag gives up at once. Any step but that from A again is the first arrival at a
+// stage: only A again leads to a B that was arrived at before.
+#[tactic(auto, unfolding(sender_rules::specs::Hearing::round_over))]
 pub fn round_over(sender: Sender, meaning: Meaning) -> Sender
     ensures { result ≡ round_over sender meaning }
 {
-    let stage = sender.stage;
     match meaning {
-        Meaning::Stay => waited(sender, stage),
-        Meaning::Forward => forward(sender),
+        Meaning::Stay => waited(sender, sender.stage),
+        Meaning::Forward if sender.stage == Stage::Back => waited(sender, Stage::Compare),
+        Meaning::Forward => advanced(sender),
         Meaning::Differs => waited(sender, Stage::Back),
-        Meaning::Flagged => flagged(sender),
-    }
-}
-
-fn forward(sender: Sender) -> Sender
-    ensures { result ≡ round_over sender Meaning.Forward }
-{
-    let stage = sender.stage;
-    if is_step(stage) {
-        return advanced(sender);
-    }
-    waited(sender, table::next_stage(stage))
-}
-
-// The arrival after this stage is the first one: only A again leads to a B that was arrived at before.
-fn is_step(stage: Stage) -> bool
-    ensures { result ≡ is_step stage }
-{
-    match stage {
-        Stage::Setup => true,
-        Stage::Frame => true,
-        Stage::Back => false,
-        Stage::Compare => true,
-        Stage::Take => true,
-        Stage::Confirm => true,
+        Meaning::Flagged => changed(
+            sender,
+            sender.frame,
+            sender.stage,
+            one_more(sender),
+            State::GivenUp,
+        ),
     }
 }
 
 // A round without a step forward; the fiftieth in a row is the last.
+#[tactic(auto, unfolding(sender_rules::specs::Hearing::waited))]
 fn waited(sender: Sender, stage: Stage) -> Sender
     ensures { result ≡ waited sender stage }
 {
-    let since = one_more(sender);
-    if sender.since < 49 {
-        return changed(sender, sender.frame, stage, since, State::Running);
-    }
-    changed(sender, sender.frame, stage, since, State::GivenUp)
+    let state = if sender.since < 49 {
+        State::Running
+    } else {
+        State::GivenUp
+    };
+    changed(sender, sender.frame, stage, one_more(sender), state)
 }
 
 // The rounds since the last step forward, with this one: fifty at most.
+#[tactic(auto, unfolding(sender_rules::specs::Hearing::one_more))]
 fn one_more(sender: Sender) -> u8
     ensures { result ≡ one_more sender }
 {
-    if sender.since < 49 {
-        return sender.since + 1;
-    }
-    50
-}
-
-// The error flag: given up at once.
-fn flagged(sender: Sender) -> Sender
-    ensures { result ≡ round_over sender Meaning.Flagged }
-{
-    let stage = sender.stage;
-    let since = one_more(sender);
-    changed(sender, sender.frame, stage, since, State::GivenUp)
+    sender.since.min(49) + 1
 }
 
 // A step forward: the next stage of the frame; past D the next frame, or the finish after the last.
+#[tactic(auto, unfolding(sender_rules::specs::Hearing::advanced, sender_rules::specs::Hearing::has_next))]
 fn advanced(sender: Sender) -> Sender
     ensures { result ≡ advanced sender }
 {
-    let stage = sender.stage;
-    if !table::is_last_stage(stage) {
-        let next = table::next_stage(stage);
+    if sender.stage != Stage::Confirm {
+        let next = table::next_stage(sender.stage);
         return changed(sender, sender.frame, next, 0, State::Running);
     }
-    let frames = file_frames::frame_count(sender.size);
-    if sender.frame as u64 + 1 < frames as u64 {
+    if sender.frame as u64 + 1 < file_frames::frame_count(sender.size) as u64 {
         return changed(sender, sender.frame + 1, Stage::Frame, 0, State::Running);
     }
     changed(sender, sender.frame, Stage::Confirm, 0, State::Finished)
@@ -96,18 +70,12 @@ fn advanced(sender: Sender) -> Sender
 fn changed(sender: Sender, frame: u32, stage: Stage, since: u8, state: State) -> Sender
     ensures { result ≡ changed sender frame stage since state }
 {
-    let link = sender.link;
-    let job = sender.job;
     Sender {
-        link,
-        source: sender.source,
-        destination: sender.destination,
-        size: sender.size,
-        job,
         frame,
         stage,
         since,
-        rounds: std::num::wrapping_add_u32(sender.rounds, 1),
+        rounds: sender.rounds.wrapping_add(1),
         state,
+        ..sender
     }
 }

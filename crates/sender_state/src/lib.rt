@@ -7,22 +7,22 @@ mod starter;
 ghost use Rattle.std.specs.Prelude.{◌≡◌};
 ghost use Rattle.sender_rules.specs.Sender.{request_kind, request_id, request_message, frames_known};
 
-use message_rules::{ErrorByte, Kind, Message};
+use message_rules::{Kind, Message};
 use round_rules::State;
 use sender_rules::{Sender, Stage};
 pub use starter::start;
 
 // The request of the stage that the sender is at, without what it carries.
+#[tactic(auto, unfolding(sender_rules::specs::Sender::request_message))]
 pub fn request_message(sender: Sender) -> Message
     ensures { result ≡ request_message sender }
 {
-    let stage = sender.stage;
     Message {
-        kind: request_kind(stage),
-        id: request_id(stage),
+        kind: request_kind(sender.stage),
+        id: request_id(sender.stage),
         source: sender.source,
         destination: sender.destination,
-        error: ErrorByte::Told(0),
+        error: Some(0),
         index: 0,
     }
 }
@@ -31,12 +31,8 @@ fn request_kind(stage: Stage) -> Kind
     ensures { result ≡ request_kind stage }
 {
     match stage {
-        Stage::Setup => Kind::Telecommand,
-        Stage::Frame => Kind::Telecommand,
-        Stage::Back => Kind::Telecommand,
-        Stage::Compare => Kind::TelemetryRequest,
-        Stage::Take => Kind::Telecommand,
-        Stage::Confirm => Kind::TelemetryRequest,
+        Stage::Setup | Stage::Frame | Stage::Back | Stage::Take => Kind::Telecommand,
+        Stage::Compare | Stage::Confirm => Kind::TelemetryRequest,
     }
 }
 
@@ -45,25 +41,21 @@ fn request_id(stage: Stage) -> u8
 {
     match stage {
         Stage::Setup => 20,
-        Stage::Frame => 22,
-        Stage::Back => 22,
-        Stage::Compare => 150,
+        Stage::Frame | Stage::Back => 22,
         Stage::Take => 21,
-        Stage::Confirm => 150,
+        Stage::Compare | Stage::Confirm => 150,
     }
 }
 
 // The frames that are known to be stored: those before the one that it is at, and that one too once it has finished. It is a u64, since the
 // count of a sender with the last frame number of 32 bits has no place there.
+#[tactic(auto, unfolding(sender_rules::specs::Sender::frames_known))]
 pub fn frames_known(sender: Sender) -> u64
     ensures { result ≡ frames_known sender }
 {
-    let before = sender.frame as u64;
-    let through = before + 1;
-    let state = sender.state;
-    match state {
-        State::Running => before,
-        State::Finished => through,
-        State::GivenUp => before,
+    let before = u64::from(sender.frame);
+    match sender.state {
+        State::Running | State::GivenUp => before,
+        State::Finished => before + 1,
     }
 }

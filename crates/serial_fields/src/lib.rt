@@ -6,7 +6,7 @@ ghost use Rattle.std.specs.Prelude.{◌≡◌};
 ghost use Rattle.serial_rules.specs.Stuffing.{esc, tail_byte};
 ghost use Rattle.serial_rules.specs.Frames.{start_row, id_length, address_length, source_legal};
 
-use serial_rules::{RowLookup, SerialLink, StartRow};
+use serial_rules::{SerialLink, StartRow};
 
 // UART's ESC, tail and start bytes.
 #[derive(Clone, Copy)]
@@ -64,22 +64,22 @@ pub fn tail(link: SerialLink) -> u8
 
 // The row of a start byte of a link.
 #[tactic(auto, unfolding(serial_rules::specs::Frames::start_row))]
-pub fn start_row(link: SerialLink, start: u8) -> RowLookup
+pub fn start_row(link: SerialLink, start: u8) -> Option<StartRow>
     ensures { result ≡ start_row link start }
 {
     match link {
         SerialLink::Uart => match start {
-            Uart::REQUEST => RowLookup::Known(StartRow::Request),
-            Uart::REPLY => RowLookup::Known(StartRow::Reply),
-            Uart::NACK => RowLookup::Known(StartRow::Nack),
-            Uart::EVENT => RowLookup::Known(StartRow::Event),
-            _ => RowLookup::Unknown,
+            Uart::REQUEST => Some(StartRow::Request),
+            Uart::REPLY => Some(StartRow::Reply),
+            Uart::NACK => Some(StartRow::Nack),
+            Uart::EVENT => Some(StartRow::Event),
+            _ => None,
         },
         SerialLink::Rs485 => match start {
-            Rs485::REQUEST => RowLookup::Known(StartRow::Request),
-            Rs485::REPLY => RowLookup::Known(StartRow::Reply),
-            Rs485::NACK => RowLookup::Known(StartRow::Nack),
-            _ => RowLookup::Unknown,
+            Rs485::REQUEST => Some(StartRow::Request),
+            Rs485::REPLY => Some(StartRow::Reply),
+            Rs485::NACK => Some(StartRow::Nack),
+            _ => None,
         },
     }
 }
@@ -89,9 +89,7 @@ pub fn id_length(row: StartRow) -> usize
     ensures { result ≡ id_length row }
 {
     match row {
-        StartRow::Request => 1,
-        StartRow::Reply => 1,
-        StartRow::Nack => 1,
+        StartRow::Request | StartRow::Reply | StartRow::Nack => 1,
         StartRow::Event => 0,
     }
 }

@@ -1,5 +1,6 @@
 -- Both round trips of the serial links (demand 2): doubling undoes the scan, the fields in front of the data stand in their places, and
 -- the data goes as on every link that carries the error byte.
+use Rattle.std.specs.Prelude.{None, Option, Some}
 use Prim.Native.Nat.{ℕ, ◌+◌, ◌≤◌}
 use mathlib.Core.Bool.{Bool, true, false, cond}
 use mathlib.Core.List.{List, [], ◌∷◌, ◌++◌}
@@ -15,8 +16,6 @@ use Rattle.message_rules.specs.Checks.{id_legal, payload_legal, writable, write_
 use Rattle.message_rules.specs.Kinds.{carried_on}
 use Rattle.message_rules.specs.declared.Kind.{Kind}
 use Rattle.message_rules.specs.declared.Message.{Message}
-use Rattle.message_rules.specs.declared.KindLookup.{KindLookup}
-use Rattle.message_rules.specs.declared.KindLookup.TheVariants as KindLookupOf
 use Rattle.message_rules.proofs.Answers.{after-given, after-passed}
 use Rattle.message_rules.proofs.Data.{data-written, data_read_lem}
 use Rattle.message_rules.proofs.Checks.{require-passed, fields_passed}
@@ -25,8 +24,6 @@ use Rattle.serial_rules.specs.Frames.{start_byte, start_row, row_of, kind_of, ha
 use Rattle.serial_rules.specs.declared.Stop.{Stop}
 use Rattle.serial_rules.specs.declared.Stop.TheVariants.{Ended, Broken, Cut}
 use Rattle.serial_rules.specs.declared.StartRow.{StartRow}
-use Rattle.serial_rules.specs.declared.RowLookup.{RowLookup}
-use Rattle.serial_rules.specs.declared.RowLookup.TheVariants as RowLookupOf
 use Rattle.serial_rules.specs.declared.SerialLink.{SerialLink}
 use Rattle.serial_rules.specs.declared.SerialLink.TheVariants.{Uart, Rs485}
 use Rattle.serial_rules.proofs.Scans.{scan-doubled, doubled-scan}
@@ -80,7 +77,7 @@ source_checked-given l (given m' p') m p e =
     (rw (g.1, g.2), rw (← g.1) (require-passed (source_legal l m'.source) 7 passed g.0).0)
 
 -- Writing what was read returns the bytes: first from the kind that the ID decided for,
-kind_writes : (l : SerialLink) (r : StartRow) (d : List ℕ) (m : Message) (p : List ℕ) (k : Kind) → Has l r → front_length l r ≤ length d → kind_of r (id_field r d) ≡ KindLookupOf.Known k
+kind_writes : (l : SerialLink) (r : StartRow) (d : List ℕ) (m : Message) (p : List ℕ) (k : Kind) → Has l r → front_length l r ≤ length d → kind_of r (id_field r d) ≡ Some k
     → kind_read l r k d ≡ given m p
     → frame_write l m p ≡ written (0x1F ∷ start_byte l r ∷ (doubled d ++ (0x1F ∷ 0xFF ∷ [])))
 unfolding kind_read frame_write checked_frame frame_bytes write_checks data_message require after
@@ -103,9 +100,9 @@ body_writes l r d m p has e = by (kind_of r (id_field r d)) refl
     f : (require (leb (front_length l r) (length d)) 6 passed ≡ passed) × (identified l r (kind_of r (id_field r d)) d ≡ given m p)
     f = after-passed (require (leb (front_length l r) (length d)) 6 passed) _ m p e
 
-    by : (x : KindLookup) → kind_of r (id_field r d) ≡ x → frame_write l m p ≡ written (0x1F ∷ start_byte l r ∷ (doubled d ++ (0x1F ∷ 0xFF ∷ [])))
-    by KindLookupOf.Unknown q = absurd (let z : ◌≡◌ {A = ℕ} 0 1 = cc (rw q at f.1) in omega arith)
-    by (KindLookupOf.Known k) q =
+    by : (x : Option Kind) → kind_of r (id_field r d) ≡ x → frame_write l m p ≡ written (0x1F ∷ start_byte l r ∷ (doubled d ++ (0x1F ∷ 0xFF ∷ [])))
+    by None q = absurd (let z : ◌≡◌ {A = ℕ} 0 1 = cc (rw q at f.1) in omega arith)
+    by (Some k) q =
         kind_writes l r d m p k has (leb-true _ _ (require-passed (leb (front_length l r) (length d)) 6 passed f.0).0) q (rw q at f.1)
 
 -- then from a start byte of the link,
@@ -141,9 +138,9 @@ read_writes l (x ∷ y ∷ s) m p e = by (eqb x 0x1F) refl (start_row l y) refl
     two : 2 ≤ length (x ∷ y ∷ s)
     two = omega arith
 
-    by : (t : Bool) → eqb x 0x1F ≡ t → (w : RowLookup) → start_row l y ≡ w → frame_write l m p ≡ written (x ∷ y ∷ s)
+    by : (t : Bool) → eqb x 0x1F ≡ t → (w : Option StartRow) → start_row l y ≡ w → frame_write l m p ≡ written (x ∷ y ∷ s)
     by false q w v = absurd (let z : ◌≡◌ {A = ℕ} 0 1 = cc (rw (le-leb _ _ one, q) at e) in omega arith)
-    by true q RowLookupOf.Unknown v = absurd (let z : ◌≡◌ {A = ℕ} 0 1 = cc (rw (le-leb _ _ one, q, le-leb _ _ two, v) at e) in omega arith)
-    by true q (RowLookupOf.Known r) v =
+    by true q None v = absurd (let z : ◌≡◌ {A = ℕ} 0 1 = cc (rw (le-leb _ _ one, q, le-leb _ _ two, v) at e) in omega arith)
+    by true q (Some r) v =
         let g = start_of_row l y r v in
         rw (eqb-true x 0x1F q, ← g.0) (row_writes l r s m p g.1 (rw (le-leb _ _ one, q, le-leb _ _ two, v) at e))

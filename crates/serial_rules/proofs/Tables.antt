@@ -1,4 +1,5 @@
 -- The laws of the tables of start bytes and fields, by the link and the row.
+use Rattle.std.specs.Prelude.{None, Option, Some, ℕ}
 use Prim.Native.Nat.{ℕ, ◌+◌, ◌≤◌}
 use mathlib.Core.Bool.{Bool, true, false, cond, ◌&&◌}
 use mathlib.Core.List.{List, [], ◌∷◌, ◌++◌}
@@ -10,16 +11,12 @@ use lib.ListN.{length, get_or, drop}
 use lib.Seq.{drop-cons}
 use Rattle.message_rules.specs.Checks.{id_legal, error_told, writable}
 use Rattle.message_rules.specs.Kinds.{inside, is_event}
-use Rattle.message_rules.specs.declared.ErrorByte.{ErrorByte}
-use Rattle.message_rules.specs.declared.ErrorByte.TheVariants.{Told, NotTold}
 use Rattle.message_rules.specs.declared.Kind.{Kind}
 use Rattle.message_rules.specs.declared.Kind.TheVariants as KindOf
 use Rattle.message_rules.specs.declared.Message.{Message}
-use Rattle.message_rules.specs.declared.KindLookup.TheVariants as KindLookupOf
 use Rattle.message_rules.proofs.Checks.{both_true, plain-writable, writable-plain}
 use Rattle.message_rules.proofs.Tables.{by_row}
 use Rattle.serial_rules.specs.Frames.{start_byte, start_row, row_of, by_id, kind_of, has_id, has_addresses, front_length, id_field, address_field, id_bytes, address_bytes, front_fields, serial_carries}
-use Rattle.serial_rules.specs.declared.RowLookup.TheVariants as RowLookupOf
 use Rattle.serial_rules.specs.declared.StartRow.{StartRow}
 use Rattle.serial_rules.specs.declared.StartRow.TheVariants.{Request, Reply, Nack, Event}
 use Rattle.serial_rules.specs.declared.SerialLink.{SerialLink}
@@ -61,7 +58,7 @@ Has Rs485 Nack = Unit
 Has Rs485 Event = ⊥
 
 -- A start byte stands for its row.
-pub row_of-start : (l : SerialLink) (r : StartRow) → Has l r → start_row l (start_byte l r) ≡ RowLookupOf.Known r
+pub row_of-start : (l : SerialLink) (r : StartRow) → Has l r → start_row l (start_byte l r) ≡ Some r
 unfolding start_row
 row_of-start Uart Request h = refl
 row_of-start Uart Reply h = refl
@@ -73,13 +70,13 @@ row_of-start Rs485 Nack h = refl
 row_of-start Rs485 Event h = absurd h
 
 -- And the row of a byte has it for its start byte.
-start-found : (l : SerialLink) (b n : ℕ) (r r₁ : StartRow) → start_byte l r₁ ≡ n → Has l r₁ → b ≡ n → RowLookupOf.Known r₁ ≡ RowLookupOf.Known r → (start_byte l r ≡ b) × Has l r
+start-found : (l : SerialLink) (b n : ℕ) (r r₁ : StartRow) → start_byte l r₁ ≡ n → Has l r₁ → b ≡ n → Some r₁ ≡ Some r → (start_byte l r ≡ b) × Has l r
 start-found l b n r r₁ hn has hb f = let g : r ≡ r₁ = cc in rw g (hn ∙ sym hb, has)
 
-no_start : {P : Type 0} (r : StartRow) → RowLookupOf.Unknown ≡ RowLookupOf.Known r → P
+no_start : {P : Type 0} (r : StartRow) → None ≡ Some r → P
 no_start r f = absurd (let z : ◌≡◌ {A = ℕ} 0 1 = cc in omega arith)
 
-pub start_of_row : (l : SerialLink) (b : ℕ) (r : StartRow) → start_row l b ≡ RowLookupOf.Known r → (start_byte l r ≡ b) × Has l r
+pub start_of_row : (l : SerialLink) (b : ℕ) (r : StartRow) → start_row l b ≡ Some r → (start_byte l r ≡ b) × Has l r
 unfolding start_row
 start_of_row Uart b r e =
     by_row b 0x7F _ _ _ (start-found Uart b 0x7F r Request refl tt) (by_row b 0x07 _ _ _ (start-found Uart b 0x07 r Reply refl tt)
@@ -130,17 +127,17 @@ id_carried KindOf.TelemetryNack id = refl
 id_carried KindOf.Event id = refl
 
 -- A legal ID of a kind decides for that kind in its row.
-telecommand_id : (id : ℕ) (tc tlm : Kind) → leb 0 id && leb id 127 ≡ true → by_id id tc tlm ≡ KindLookupOf.Known tc
+telecommand_id : (id : ℕ) (tc tlm : Kind) → leb 0 id && leb id 127 ≡ true → by_id id tc tlm ≡ Some tc
 unfolding by_id
 telecommand_id id tc tlm h = rw (both_true (leb 0 id) (leb id 127) h).1
 
-telemetry_id : (id : ℕ) (tc tlm : Kind) → leb 128 id && leb id 254 ≡ true → by_id id tc tlm ≡ KindLookupOf.Known tlm
+telemetry_id : (id : ℕ) (tc tlm : Kind) → leb 128 id && leb id 254 ≡ true → by_id id tc tlm ≡ Some tlm
 unfolding by_id
 telemetry_id id tc tlm h =
     let g = both_true (leb 128 id) (leb id 254) h in
     rw (lt-leb id 127 (leb-true 128 id g.0), g.1)
 
-pub kind_of-id : (k : Kind) (id : ℕ) → id_legal k id ≡ true → kind_of (row_of k) (cond (is_event k) 255 id) ≡ KindLookupOf.Known k
+pub kind_of-id : (k : Kind) (id : ℕ) → id_legal k id ≡ true → kind_of (row_of k) (cond (is_event k) 255 id) ≡ Some k
 unfolding id_legal inside kind_of
 kind_of-id KindOf.Telecommand id h = telecommand_id id _ _ h
 kind_of-id KindOf.TelecommandAck id h = telecommand_id id _ _ h
@@ -151,7 +148,7 @@ kind_of-id KindOf.TelemetryNack id h = telemetry_id id _ _ h
 kind_of-id KindOf.Event id h = refl
 
 -- And the kind of an ID in a row is of that row.
-row_of-id : (id : ℕ) (tc tlm k : Kind) (r : StartRow) → row_of tc ≡ r → row_of tlm ≡ r → by_id id tc tlm ≡ KindLookupOf.Known k → row_of k ≡ r
+row_of-id : (id : ℕ) (tc tlm k : Kind) (r : StartRow) → row_of tc ≡ r → row_of tlm ≡ r → by_id id tc tlm ≡ Some k → row_of k ≡ r
 unfolding by_id
 row_of-id id tc tlm k r htc htlm e = by (leb id 127) refl (leb id 254) refl
   where
@@ -160,7 +157,7 @@ row_of-id id tc tlm k r htc htlm e = by (leb id 127) refl (leb id 254) refl
     by false q true v = let g : k ≡ tlm = cc (rw (q, v) at e) in rw g htlm
     by false q false v = absurd (let z : ◌≡◌ {A = ℕ} 0 1 = cc (rw (q, v) at e) in omega arith)
 
-pub row_of-kind : (r : StartRow) (id : ℕ) (k : Kind) → kind_of r id ≡ KindLookupOf.Known k → row_of k ≡ r
+pub row_of-kind : (r : StartRow) (id : ℕ) (k : Kind) → kind_of r id ≡ Some k → row_of k ≡ r
 unfolding kind_of
 row_of-kind Request id k e = row_of-id id _ _ k Request refl refl e
 row_of-kind Reply id k e = row_of-id id _ _ k Reply refl refl e
@@ -168,16 +165,16 @@ row_of-kind Nack id k e = row_of-id id _ _ k Nack refl refl e
 row_of-kind Event id k e = let g : k ≡ KindOf.Event = cc in ap row_of g
 
 -- An event is told, whatever its error, and RS485 has a row for every other kind.
-event-told : (k : Kind) (e : ErrorByte) → is_event k ≡ true → error_told k e ≡ true
+event-told : (k : Kind) (e : Option ℕ) → is_event k ≡ true → error_told k e ≡ true
 unfolding error_told
-event-told k (Told e) h = refl
-event-told KindOf.Telecommand NotTold h = refl
-event-told KindOf.TelecommandAck NotTold h = refl
-event-told KindOf.TelecommandNack NotTold h = absurd (let z : ◌≡◌ {A = ℕ} 0 1 = cc in omega arith)
-event-told KindOf.TelemetryRequest NotTold h = refl
-event-told KindOf.TelemetryResponse NotTold h = refl
-event-told KindOf.TelemetryNack NotTold h = absurd (let z : ◌≡◌ {A = ℕ} 0 1 = cc in omega arith)
-event-told KindOf.Event NotTold h = refl
+event-told k (Some e) h = refl
+event-told KindOf.Telecommand None h = refl
+event-told KindOf.TelecommandAck None h = refl
+event-told KindOf.TelecommandNack None h = absurd (let z : ◌≡◌ {A = ℕ} 0 1 = cc in omega arith)
+event-told KindOf.TelemetryRequest None h = refl
+event-told KindOf.TelemetryResponse None h = refl
+event-told KindOf.TelemetryNack None h = absurd (let z : ◌≡◌ {A = ℕ} 0 1 = cc in omega arith)
+event-told KindOf.Event None h = refl
 
 plain_has : (k : Kind) → is_event k ≡ false → Has Rs485 (row_of k)
 plain_has KindOf.Telecommand h = tt

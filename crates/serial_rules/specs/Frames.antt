@@ -1,5 +1,5 @@
 -- Frames of UART and RS485 (document 01, "The two serial links" and "Refusal numbers"): one set of definitions for both.
-use Rattle.std.specs.Prelude.{ℕ, ◌+◌, Bool, true, false, cond, List, [], ◌∷◌, ◌++◌, leb, ltb, eqb, length, get_or, drop}
+use Rattle.std.specs.Prelude.{ℕ, ◌+◌, Bool, true, false, cond, List, [], ◌∷◌, ◌++◌, leb, ltb, eqb, length, get_or, drop, None, Option, Some}
 use Rattle.message_rules.specs.Answer.{Answer, refused, given, passed, require, after, written}
 use Rattle.message_rules.specs.Data.{data_read, data_bytes}
 use Rattle.message_rules.specs.Checks.{write_checks}
@@ -7,8 +7,6 @@ use Rattle.message_rules.specs.declared.Carries.{Carries}
 use Rattle.message_rules.specs.declared.Kind.{Kind}
 use Rattle.message_rules.specs.declared.Kind.TheVariants as KindOf
 use Rattle.message_rules.specs.declared.Message.{Message}
-use Rattle.message_rules.specs.declared.KindLookup.{KindLookup}
-use Rattle.message_rules.specs.declared.KindLookup.TheVariants as KindLookupOf
 use Rattle.serial_rules.specs.Stuffing.{esc, tail_byte, doubled, scan}
 use Rattle.serial_rules.specs.declared.Stop.{Stop}
 use Rattle.serial_rules.specs.declared.Stop.TheVariants.{Ended, Broken, Cut}
@@ -16,8 +14,6 @@ use Rattle.serial_rules.specs.declared.StartRow.{StartRow}
 use Rattle.serial_rules.specs.declared.StartRow.TheVariants.{Request, Reply, Nack, Event}
 use Rattle.serial_rules.specs.declared.SerialLink.{SerialLink}
 use Rattle.serial_rules.specs.declared.SerialLink.TheVariants.{Uart, Rs485}
-use Rattle.serial_rules.specs.declared.RowLookup.{RowLookup}
-use Rattle.serial_rules.specs.declared.RowLookup.TheVariants as RowLookupOf
 
 -- The table of start bytes. RS485 has no event: 0 stands for what is never written.
 abbrev pub start_byte : SerialLink → StartRow → ℕ
@@ -31,18 +27,18 @@ start_byte Rs485 Nack = 0x10
 start_byte Rs485 Event = 0
 
 -- The row of a start byte of the link.
-unfoldable pub start_row : SerialLink → ℕ → RowLookup
+unfoldable pub start_row : SerialLink → ℕ → Option StartRow
 start_row Uart b =
-    cond (eqb b 0x7F) (RowLookupOf.Known Request)
-    (cond (eqb b 0x07) (RowLookupOf.Known Reply)
-    (cond (eqb b 0x0F) (RowLookupOf.Known Nack)
-    (cond (eqb b 0x2F) (RowLookupOf.Known Event)
-    RowLookupOf.Unknown)))
+    cond (eqb b 0x7F) (Some Request)
+    (cond (eqb b 0x07) (Some Reply)
+    (cond (eqb b 0x0F) (Some Nack)
+    (cond (eqb b 0x2F) (Some Event)
+    None)))
 start_row Rs485 b =
-    cond (eqb b 0x80) (RowLookupOf.Known Request)
-    (cond (eqb b 0x08) (RowLookupOf.Known Reply)
-    (cond (eqb b 0x10) (RowLookupOf.Known Nack)
-    RowLookupOf.Unknown))
+    cond (eqb b 0x80) (Some Request)
+    (cond (eqb b 0x08) (Some Reply)
+    (cond (eqb b 0x10) (Some Nack)
+    None))
 
 -- The row of a kind.
 abbrev pub row_of : Kind → StartRow
@@ -55,15 +51,15 @@ row_of KindOf.TelemetryNack = Nack
 row_of KindOf.Event = Event
 
 -- An ID of a row: 0..127 is a telecommand kind's, 128..254 a telemetry kind's, 255 no kind's.
-unfoldable pub by_id : ℕ → Kind → Kind → KindLookup
-by_id id tc tlm = cond (leb id 127) (KindLookupOf.Known tc) (cond (leb id 254) (KindLookupOf.Known tlm) KindLookupOf.Unknown)
+unfoldable pub by_id : ℕ → Kind → Kind → Option Kind
+by_id id tc tlm = cond (leb id 127) (Some tc) (cond (leb id 254) (Some tlm) None)
 
 -- "The ID decides between the two kinds of a row." An event has no ID.
-unfoldable pub kind_of : StartRow → ℕ → KindLookup
+unfoldable pub kind_of : StartRow → ℕ → Option Kind
 kind_of Request id = by_id id KindOf.Telecommand KindOf.TelemetryRequest
 kind_of Reply id = by_id id KindOf.TelecommandAck KindOf.TelemetryResponse
 kind_of Nack id = by_id id KindOf.TelecommandNack KindOf.TelemetryNack
-kind_of Event id = KindLookupOf.Known KindOf.Event
+kind_of Event id = Some KindOf.Event
 
 -- In front of the data stand "the ID (none for an event), on RS485 source and destination": the row decides on the ID,
 abbrev pub has_id : StartRow → Bool
@@ -120,9 +116,9 @@ kind_read l r k d =
     source_checked l (data_read k (id_field r d) (address_field l r d 0) (address_field l r d 1) (drop (front_length l r) d))
 
 -- 5: the ID of no kind.
-unfoldable pub identified : SerialLink → StartRow → KindLookup → List ℕ → Answer Message (List ℕ)
-identified l r KindLookupOf.Unknown d = refused 5
-identified l r (KindLookupOf.Known k) d = kind_read l r k d
+unfoldable pub identified : SerialLink → StartRow → Option Kind → List ℕ → Answer Message (List ℕ)
+identified l r None d = refused 5
+identified l r (Some k) d = kind_read l r k d
 
 -- 6 where ID or address bytes are missing, then 5, 6, 7.
 unfoldable pub frame_body : SerialLink → StartRow → List ℕ → Answer Message (List ℕ)
@@ -140,9 +136,9 @@ unfoldable pub row_read : SerialLink → StartRow → List ℕ → Answer Messag
 row_read l r s = closed l r (scan s).stop (scan s).consumed (length s) (scan s).body
 
 -- 2: no start byte of this link.
-unfoldable pub started : SerialLink → RowLookup → List ℕ → Answer Message (List ℕ)
-started l RowLookupOf.Unknown s = refused 2
-started l (RowLookupOf.Known r) s = row_read l r s
+unfoldable pub started : SerialLink → Option StartRow → List ℕ → Answer Message (List ℕ)
+started l None s = refused 2
+started l (Some r) s = row_read l r s
 
 -- "Reading a serial frame: the first fault from the left among 1, 2, 3, 4; then 6 where ID or address bytes are missing, 5, 6, 7."
 unfoldable pub frame_read : SerialLink → List ℕ → Answer Message (List ℕ)

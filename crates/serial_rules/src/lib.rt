@@ -24,13 +24,6 @@ pub enum StartRow {
     Event,
 }
 
-// The row that a start byte stands for.
-#[derive(Clone, Copy)]
-pub enum RowLookup {
-    Known(StartRow),
-    Unknown,
-}
-
 // How a scan from inside a frame stopped.
 #[derive(Clone, Copy)]
 pub enum Stop {

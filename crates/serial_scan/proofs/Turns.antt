@@ -1,12 +1,14 @@
 -- The turns of the scan's loop, by the steps of the definition: what a scan from a place finds is what a scan from the place reached finds,
 -- after what was counted.
-use Prim.Native.Nat.{ℕ, ◌+◌, ◌≤◌, ◌<◌}
+use Prim.Native.Nat.{ℕ, ◌+◌, ◌-◌, ◌≤◌, ◌<◌}
 use mathlib.Core.List.{List}
 use mathlib.Core.Path.{◌≡◌, refl, sym, ◌∙◌}
 use native.Mathlib.Nat.{add-zero}
 use native.Mathlib.Omega.{arith}
 use borrow.Author.Tests.{ne_eqb}
-use lib.ListN.{length, get_or, drop}
+use lib.ListN.{length, get_or, take, drop, length-drop}
+use lib.Seq.{get_or-drop}
+use Rattle.message_rules.proofs.Parts.{part-from}
 use Rattle.serial_rules.specs.Stuffing.{Scan, stopped, more, escaped, scan}
 use Rattle.serial_rules.specs.declared.Stop.{Stop}
 use Rattle.serial_rules.specs.declared.Stop.TheVariants.{Ended, Broken, Cut}
@@ -40,29 +42,46 @@ module _ {b : List ℕ} {from e t at count : ℕ} (h : Turn b from e t at count)
   stops : {how : Stop} {n end : ℕ} → end ≡ at + n → scan (drop at b) ≡ stopped how n → found how end count ≡ scan_from b from
   stops e q = rest_stops e (rw q at h.rest)
 
-  pub turn_plain : at < length b → (get_or b at 0 ≡ e → ⊥) → Turn b from e t (at + 1) (count + 1)
-  turn_plain l other = next_turn (omega arith) (step-plain b at l (rw h.esc at other))
-
   pub turn_end : length b ≤ at → found Cut at count ≡ scan_from b from
   turn_end l = stops (sym (add-zero at)) (step_end b at l)
 
+  -- What is left of the bytes.
+  abbrev left : List ℕ
+  left = take (length b - at) (drop at b)
+
+  inside : (n : ℕ) → 1 ≤ n → n ≤ length left → at + n ≤ length b
+  inside n one l = omega (arith, length-drop at b, rw part-from at l)
+
+  first : get_or left 0 0 ≡ get_or b at 0
+  first = rw (part-from, get_or-drop, add-zero)
+
+  second : get_or left 1 0 ≡ get_or b (at + 1) 0
+  second = rw (part-from, get_or-drop)
+
+  pub turn_plain : 1 ≤ length left → (get_or left 0 0 ≡ e → ⊥) → Turn b from e t (at + 1) (count + 1)
+  turn_plain l other = next_turn (omega arith) (step-plain b at (omega (arith, inside 1 (omega arith) l)) (λ q. other (first ∙ q ∙ sym h.esc)))
+
   -- At an ESC.
-  module _ (q : get_or b at 0 ≡ e) where
-    pub turn_cut : at + 1 ≡ length b → found Cut at count ≡ scan_from b from
-    turn_cut l = stops (sym (add-zero at)) (step_cut b at l (q ∙ h.esc))
+  module _ (q : get_or left 0 0 ≡ e) where
+    escape : get_or b at 0 ≡ 0x1F
+    escape = sym first ∙ q ∙ h.esc
 
-    pair : at + 1 < length b → scan (drop at b) ≡ escaped (get_or b (at + 1) 0) (scan (drop (at + 2) b))
-    pair l = step-escaped b at l (q ∙ h.esc)
+    pub turn_cut : at < length b → length left < 2 → found Cut at count ≡ scan_from b from
+    turn_cut l short = stops (sym (add-zero at)) (step_cut b at (omega (arith, length-drop at b, rw part-from at short)) escape)
 
-    pub turn_ended : at + 1 < length b → get_or b (at + 1) 0 ≡ t → found Ended (at + 2) count ≡ scan_from b from
-    unfolding escaped
-    turn_ended l n = stops refl (pair l ∙ rw (n, h.tail))
+    module _ (l : 2 ≤ length left) where
+      pair : scan (drop at b) ≡ escaped (get_or left 1 0) (scan (drop (at + 2) b))
+      pair = rw second (step-escaped b at (omega (arith, inside 2 (omega arith) l)) escape)
 
-    pub turn_broken : at + 1 < length b → (get_or b (at + 1) 0 ≡ t → ⊥) → (get_or b (at + 1) 0 ≡ e → ⊥) → found Broken at count ≡ scan_from b from
-    unfolding escaped
-    turn_broken l m n =
-        stops (sym (add-zero at)) (pair l ∙ rw (ne_eqb _ 0x1F (rw h.esc at n), ne_eqb _ 0xFF (rw h.tail at m)))
+      pub turn_ended : get_or left 1 0 ≡ t → found Ended (at + 2) count ≡ scan_from b from
+      unfolding escaped
+      turn_ended n = stops refl (pair ∙ rw (n, h.tail))
 
-    pub turn_doubled : at + 1 < length b → get_or b (at + 1) 0 ≡ e → Turn b from e t (at + 2) (count + 1)
-    unfolding escaped
-    turn_doubled l n = next_turn {x = 0x1F} (omega arith) (pair l ∙ rw (n, h.esc))
+      pub turn_doubled : get_or left 1 0 ≡ e → Turn b from e t (at + 2) (count + 1)
+      unfolding escaped
+      turn_doubled n = next_turn {x = 0x1F} (omega arith) (pair ∙ rw (n, h.esc))
+
+      pub turn_broken : (get_or left 1 0 ≡ t → ⊥) → (get_or left 1 0 ≡ e → ⊥) → found Broken at count ≡ scan_from b from
+      unfolding escaped
+      turn_broken m n =
+          stops (sym (add-zero at)) (pair ∙ rw (ne_eqb _ 0x1F (rw h.esc at n), ne_eqb _ 0xFF (rw h.tail at m)))

@@ -23,23 +23,15 @@ pub fn scan(link: SerialLink, bytes: &[u8], from: usize) -> Scanned
     let last = tail(link);
     let mut at = from;
     let mut count = 0;
+    // A turn takes one byte or two, and the place that it comes to is told.
     while at < bytes.len() {
-        if bytes[at] != esc {
-            at += 1;
-            count += 1;
-            continue;
+        match &bytes[at..] {
+            [b, ..] if *b != esc => at += 1,
+            [_, next, ..] if *next == last => return found(Stop::Ended, at + 2, count),
+            [_, next, ..] if *next == esc => at += 2,
+            [_, _, ..] => return found(Stop::Broken, at, count),
+            _ => break,
         }
-        if at + 1 == bytes.len() {
-            return found(Stop::Cut, at, count);
-        }
-        let next = bytes[at + 1];
-        if next == last {
-            return found(Stop::Ended, at + 2, count);
-        }
-        if next != esc {
-            return found(Stop::Broken, at, count);
-        }
-        at += 2;
         count += 1;
     }
     found(Stop::Cut, at, count)

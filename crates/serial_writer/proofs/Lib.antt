@@ -1,2 +1,2 @@
-pub mod Putting
-pub mod Writing
+pub mod Doubled
+pub mod Framed

@@ -2,7 +2,6 @@
 #![tactic(auto)]
 
 mod double;
-mod front;
 mod start;
 mod writer;
 

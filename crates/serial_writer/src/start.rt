@@ -30,12 +30,9 @@ pub(crate) fn row_of(kind: Kind) -> StartRow
     ensures { result ≡ row_of kind }
 {
     match kind {
-        Kind::Telecommand => StartRow::Request,
-        Kind::TelecommandAck => StartRow::Reply,
-        Kind::TelecommandNack => StartRow::Nack,
-        Kind::TelemetryRequest => StartRow::Request,
-        Kind::TelemetryResponse => StartRow::Reply,
-        Kind::TelemetryNack => StartRow::Nack,
+        Kind::Telecommand | Kind::TelemetryRequest => StartRow::Request,
+        Kind::TelecommandAck | Kind::TelemetryResponse => StartRow::Reply,
+        Kind::TelecommandNack | Kind::TelemetryNack => StartRow::Nack,
         Kind::Event => StartRow::Event,
     }
 }

@@ -1,35 +1,31 @@
 // Reading byte strings.
 ghost use Rattle.std.specs.Prelude.{true, ◌≡◌, ◌/◌, ◌≤◌, length};
 ghost use Rattle.std.proofs.lemmas.List.Edits.{sets};
-ghost use Rattle.text_rules.specs.Digits.{all_digits};
+ghost use Rattle.text_rules.specs.Digits.{is_digit, all_digits};
 ghost use Rattle.text_rules.specs.Hex.{is_dash, is_hex, pairs, read_hex, if_room, hex_answer, hex_output};
 
 use text_numbers::digit_value;
-use text_rules::HexAnswer;
 
 // The word `-`.
 #[tactic(auto, unfolding(text_rules::specs::Hex::is_dash))]
 fn is_dash(word: &[u8]) -> bool
     ensures { result ≡ is_dash word.now }
 {
-    if word.len() != 1 {
-        return false;
-    }
-    word[0] == b'-'
+    matches!(word, b"-")
+}
+
+#[tactic(auto, unfolding(text_rules::specs::Digits::is_digit))]
+fn is_digit(b: u8) -> bool
+    ensures { result ≡ is_digit 16 b }
+{
+    digit_value(b).is_some()
 }
 
 // Hexadecimal digits and nothing else.
 fn all_digits(word: &[u8]) -> bool
     ensures { result ≡ all_digits 16 word.now }
 {
-    let mut i = 0;
-    while i < word.len() {
-        if digit_value(word[i]) > 15 {
-            return false;
-        }
-        i += 1;
-    }
-    true
+    word.iter().all(|byte| is_digit(*byte))
 }
 
 // One byte or more, two digits each.
@@ -37,13 +33,7 @@ fn all_digits(word: &[u8]) -> bool
 fn is_hex(word: &[u8]) -> bool
     ensures { result ≡ is_hex word.now }
 {
-    if word.len() == 0 {
-        return false;
-    }
-    if word.len() % 2 != 0 {
-        return false;
-    }
-    all_digits(word)
+    !word.is_empty() && word.len() % 2 == 0 && all_digits(word)
 }
 
 // Stores the byte of each pair of digits, from the start of the output on.
@@ -52,31 +42,27 @@ fn store_bytes(word: &[u8], out: &mut [u8])
     requires word_in_bounds { length word.now / 2 ≤ length out.old }
     ensures { out.new ≡ sets out.old 0 (pairs word.now) }
 {
-    let n = word.len() / 2;
-    let mut i = 0;
-    while i < n {
-        let at = i * 2;
-        let high = digit_value(word[at]);
-        let low = digit_value(word[at + 1]);
+    for (i, pair) in word.chunks_exact(2).enumerate() {
+        let high = digit_value(pair[0]).unwrap();
+        let low = digit_value(pair[1]).unwrap();
         out[i] = high * 16 + low;
-        i += 1;
     }
 }
 
 // Reads a byte string to the start of a lent output. Everything is decided before the first byte is stored.
-pub fn read_hex(word: &[u8], out: &mut [u8]) -> HexAnswer
+pub fn read_hex(word: &[u8], out: &mut [u8]) -> Option<usize>
     ensures value { result ≡ hex_answer (if_room out.old (read_hex word.now)) }
     ensures out_after { out.new ≡ hex_output (if_room out.old (read_hex word.now)) out.old }
 {
     if is_dash(word) {
-        return HexAnswer::Length(0);
+        return Some(0);
     }
     if !is_hex(word) {
-        return HexAnswer::Bad;
+        return None;
     }
     if out.len() < word.len() / 2 {
-        return HexAnswer::Bad;
+        return None;
     }
     store_bytes(word, out);
-    HexAnswer::Length(word.len() / 2)
+    Some(word.len() / 2)
 }

@@ -4,8 +4,6 @@ ghost use Rattle.std.proofs.lemmas.List.Edits.{sets};
 ghost use Rattle.text_rules.specs.Digits.{digit_of};
 ghost use Rattle.text_rules.specs.Hex.{hex_digits, printed, converted, if_room, hex_answer, hex_output};
 
-use text_rules::HexAnswer;
-
 // The capital digit of a number.
 #[tactic(auto, unfolding(text_rules::specs::Digits::digit_of))]
 fn digit_of(n: u8) -> u8
@@ -23,31 +21,27 @@ fn store_digits(bytes: &[u8], out: &mut [u8])
     requires { length bytes.now * 2 ≤ length out.old }
     ensures { out.new ≡ sets out.old 0 (hex_digits bytes.now) }
 {
-    let mut i = 0;
-    while i < bytes.len() {
-        let b = bytes[i];
-        let at = i * 2;
-        out[at] = digit_of(b / 16);
-        out[at + 1] = digit_of(b % 16);
-        i += 1;
+    for (i, byte) in bytes.iter().enumerate() {
+        out[i * 2] = digit_of(*byte / 16);
+        out[i * 2 + 1] = digit_of(*byte % 16);
     }
 }
 
 // Prints a byte string at the start of a lent output.
-pub fn write_hex(bytes: &[u8], out: &mut [u8]) -> HexAnswer
+pub fn write_hex(bytes: &[u8], out: &mut [u8]) -> Option<usize>
     ensures value { result ≡ hex_answer (if_room out.old (converted (printed bytes.now))) }
     ensures out_after { out.new ≡ hex_output (if_room out.old (converted (printed bytes.now))) out.old }
 {
-    if bytes.len() == 0 {
-        if out.len() == 0 {
-            return HexAnswer::Bad;
+    if bytes.is_empty() {
+        if out.is_empty() {
+            return None;
         }
         out[0] = b'-';
-        return HexAnswer::Length(1);
+        return Some(1);
     }
     if out.len() / 2 < bytes.len() {
-        return HexAnswer::Bad;
+        return None;
     }
     store_digits(bytes, out);
-    HexAnswer::Length(bytes.len() * 2)
+    Some(bytes.len() * 2)
 }

@@ -1,4 +1,4 @@
-pub mod WordLaws
+pub mod Splits
 pub mod DigitLaws
 pub mod NumberLaws
 pub mod Printing

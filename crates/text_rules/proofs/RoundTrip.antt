@@ -1,4 +1,5 @@
 -- Reading back what is printed gives the number, or the bytes. Carried by a digit reading back, then by induction on the digits and on the bytes.
+use Rattle.std.specs.Prelude.{Some}
 use Prim.Native.Nat.{ℕ, zero, suc, ◌+◌, ◌*◌, ◌/◌, ◌%◌, ◌≤◌, ◌<◌}
 use mathlib.Core.Path.{◌≡◌, refl, ap}
 use mathlib.Core.Bool.{Bool, true, false}
@@ -10,7 +11,6 @@ use lib.ListN.{length, get_or, length-append}
 use Rattle.text_rules.specs.Digits.{digit_value, is_digit, all_digits, digit_of}
 use Rattle.text_rules.specs.Numbers.{value_from, number_from, number_of, digits_in, decimal}
 use Rattle.text_rules.specs.Hex.{hex_digits, printed, pairs, is_dash, is_hex, converted, read_hex}
-use Rattle.text_rules.specs.declared.NumberAnswer.TheVariants.{Value}
 use Rattle.text_rules.proofs.DigitLaws.{and_left, and_right, digit_back, digit_passes}
 use Rattle.text_rules.proofs.HexLaws.{length-hex_digits, printed-some, read_pairs}
 
@@ -46,7 +46,7 @@ digits_make (suc t) n h = by (λ big. digits_make t (n / 10) (omega arith)) (ltb
         rw (e, value_after_lem 0 s (digit_of last), front.0, digit_back last (omega arith), all, length-append) (omega arith, refl, omega arith)
 
 -- Reading a printed number gives it back.
-pub number-printed : (most n : ℕ) → n ≤ most → number_of most (decimal n) ≡ Value n
+pub number-printed : (most n : ℕ) → n ≤ most → number_of most (decimal n) ≡ Some n
 unfolding number_of number_from decimal
 number-printed most n h =
     let s = digits_make (suc n) n (omega arith) in

@@ -1,5 +1,6 @@
 -- The laws of storing a byte string: when an output takes it, and what one turn leaves to be stored. Carried by the definitions, which
 -- compute once a byte or two digits stand in front.
+use Rattle.std.specs.Prelude.{None, Some}
 use Prim.Native.Nat.{ℕ, suc, ◌+◌, ◌*◌, ◌/◌, ◌%◌, ◌≤◌, ◌<◌}
 use mathlib.Core.Path.{◌≡◌, refl}
 use mathlib.Core.Bool.{true}
@@ -11,17 +12,16 @@ use lib.ListN.{length, get_or, set, drop, drop_of_length-le, length-drop}
 use lib.Seq.{drop-cons, sets, sets-eq}
 use Rattle.text_rules.specs.Digits.{digit_value, digit_of, all_digits}
 use Rattle.text_rules.specs.Hex.{hex_digits, pairs, converted, if_room, hex_answer, hex_output}
-use Rattle.text_rules.specs.declared.HexAnswer.TheVariants.{Length, Bad}
 use Rattle.text_rules.proofs.DigitLaws.{digit_at}
 
 module _ (out b : List ℕ) where
   -- An output that is too short stays as it came.
-  pub no_room : length out < length b → (Bad ≡ hex_answer (if_room out (converted b))) × (out ≡ hex_output (if_room out (converted b)) out)
+  pub no_room : length out < length b → (None ≡ hex_answer (if_room out (converted b))) × (out ≡ hex_output (if_room out (converted b)) out)
   unfolding if_room hex_answer hex_output
   no_room h = rw (lt-leb (length b) (length out) h) (refl, refl)
 
   -- Else stores from its start on put the bytes over it.
-  pub has_room_lem : length b ≤ length out → (Length (length b) ≡ hex_answer (if_room out (converted b))) × (sets out 0 b ≡ hex_output (if_room out (converted b)) out)
+  pub has_room_lem : length b ≤ length out → (Some (length b) ≡ hex_answer (if_room out (converted b))) × (sets out 0 b ≡ hex_output (if_room out (converted b)) out)
   unfolding if_room hex_answer hex_output
   has_room_lem h =
       let z : 0 + length b ≡ length b = omega arith in

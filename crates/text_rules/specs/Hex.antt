@@ -1,8 +1,6 @@
 -- Byte strings as they are printed and read, and the answers of both. Quotes are of docs/REPLAY.md, "A script".
-use Rattle.std.specs.Prelude.{ℕ, ◌+◌, ◌*◌, ◌/◌, ◌%◌, Bool, cond, ◌&&◌, not, List, [], ◌∷◌, ◌++◌, leb, eqb, length, get_or, drop}
+use Rattle.std.specs.Prelude.{ℕ, ◌+◌, ◌*◌, ◌/◌, ◌%◌, Bool, cond, ◌&&◌, not, List, [], ◌∷◌, ◌++◌, leb, eqb, length, get_or, drop, None, Option, Some}
 use Rattle.text_rules.specs.Digits.{digit_value, digit_of, all_digits}
-use Rattle.text_rules.specs.declared.HexAnswer.{HexAnswer}
-use Rattle.text_rules.specs.declared.HexAnswer.TheVariants.{Length, Bad}
 
 -- "Byte strings are hexadecimal, two digits a byte", the higher half first.
 unfoldable pub hex_digits : List ℕ → List ℕ
@@ -42,9 +40,9 @@ if_room out bad = bad
 if_room out (converted b) = cond (leb (length b) (length out)) (converted b) bad
 
 -- What the caller gets as an answer: how many bytes there are.
-unfoldable pub hex_answer : Conversion → HexAnswer
-hex_answer bad = Bad
-hex_answer (converted b) = Length (length b)
+unfoldable pub hex_answer : Conversion → Option ℕ
+hex_answer bad = None
+hex_answer (converted b) = Some (length b)
 
 -- The lent output afterwards: as it came where there are none; else the bytes, and past them what was there.
 unfoldable pub hex_output : Conversion → List ℕ → List ℕ

@@ -1,63 +1,19 @@
 // The words of a script's line, by the rules of `text_rules` (`Words`).
 #![tactic(auto)]
 
-ghost use Rattle.std.specs.Prelude.{◌≡◌, [], ◌≤◌, length, drop, get_or};
-ghost use Rattle.text_rules.specs.Words.{first_word, words};
+ghost use Rattle.std.specs.Prelude.{◌≡◌, [], length, get_or};
+ghost use Rattle.text_rules.specs.Words.{words};
 
 // How many words the line has: one more than it has spaces.
 pub fn word_count(line: &[u8]) -> usize
     ensures { result ≡ length (words line.now) }
 {
-    let mut n = 1;
-    let mut i = 0;
-    while i < line.len() {
-        if line[i] == b' ' {
-            n += 1;
-        }
-        i += 1;
-    }
-    n
-}
-
-// Where word k begins; the line's end where there is no such word.
-fn word_start(line: &[u8], k: usize) -> usize
-    ensures upper_bound { result ≤ length line.now }
-    ensures line_value { first_word (drop result line.now) ≡ get_or (words line.now) k [] }
-{
-    let mut left = k;
-    let mut i = 0;
-    while i < line.len() {
-        if left == 0 {
-            return i;
-        }
-        if line[i] == b' ' {
-            left -= 1;
-        }
-        i += 1;
-    }
-    i
-}
-
-// How many bytes the first word has.
-fn first_length(line: &[u8]) -> usize
-    ensures { result ≡ length (first_word line.now) }
-{
-    let mut i = 0;
-    while i < line.len() {
-        if line[i] == b' ' {
-            return i;
-        }
-        i += 1;
-    }
-    i
+    line.split(|byte| *byte == b' ').count()
 }
 
 // Word k, counted from 0, and nothing where the line has no such word.
 pub fn word(line: &[u8], k: usize) -> &[u8]
     ensures { result.now ≡ get_or (words line.now) k [] }
 {
-    let start = word_start(line, k);
-    let rest = &line[start..];
-    let n = first_length(rest);
-    &rest[..n]
+    line.split(|byte| *byte == b' ').nth(k).unwrap_or(&[])
 }

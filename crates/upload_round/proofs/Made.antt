@@ -1,5 +1,6 @@
 -- What calls make one after the other: a call that passes goes on with the next, and one that is refused ends them. Each part of a round
 -- is then its first call in front of the rest, and the arrivals of each fate stand in front of the sender's answer call.
+use Rattle.std.specs.Prelude.{None, Ok}
 use Prim.Native.Nat.{ℕ}
 use mathlib.Core.Bool.{true, false}
 use mathlib.Core.List.{List, [], ◌∷◌}
@@ -9,12 +10,10 @@ use native.Mathlib.Omega.{arith}
 use Rattle.message_rules.specs.Answer.{Answer, refused, given, refusal_number, passed, failed, within, counted, output_after, verdict_result}
 use Rattle.message_rules.proofs.Answers.{same-room}
 use Rattle.message_rules.specs.declared.Refusal.{Refusal}
-use Rattle.message_rules.specs.declared.Verdict.TheVariants.{Passed}
 use Rattle.device_rules.specs.Answers.{receive_result, after_receive}
 use Rattle.device_rules.specs.Receive.{Reply, receive}
 use Rattle.device_rules.specs.Work.{work, store_after, after_work}
 use Rattle.device_rules.specs.declared.Device.{Device}
-use Rattle.device_rules.specs.declared.Outcome.TheVariants as OutcomeOf
 use Rattle.device_rules.specs.declared.Received.{Received}
 use Rattle.sender_rules.specs.Hearing.{hear}
 use Rattle.round_rules.specs.Rounds.{nothing_sent, choose, made, first_refusal}
@@ -113,7 +112,7 @@ unfolding exchange call_check does lent
 twice_ends r d store s file rq e next n k = goes_on_lem r store file (asking d store s rq) (arrives rq shared output) _ e (forgets r _ store s file rq _ (rw n at k))
 
 -- The arrivals of each fate. A request that is lost has none,
-pub none-arrived : (d : Device) (left store rq : List ℕ) → Arrived (record { device = d; outcome = OutcomeOf.Silent }) left d RequestLost store rq
+pub none-arrived : (d : Device) (left store rq : List ℕ) → Arrived (record { device = d; outcome = Ok None }) left d RequestLost store rq
 unfolding exchange
 none-arrived d left store rq =
     record {
@@ -188,7 +187,7 @@ module _ (r : Rounded) (d : Device) (store : List ℕ) (s : Sender) (file : List
 
   -- A sender that has ended writes none, and nothing follows.
   pub requested-ended : is_running s.state ≡ false → (a : Sent) (x : List ℕ) → within output (request s file) ≡ given a x
-      → (r.device ≡ d) × (r.sender ≡ s) × (r.verdict ≡ Passed) → Requested r d s f file store
+      → (r.device ≡ d) × (r.sender ≡ s) × (r.verdict ≡ Ok tt) → Requested r d s f file store
   unfolding requested call_check answer_check does lent made first_refusal verdict_result
   requested-ended over a x e k =
       rw over (goes_on_lem r store file before (asks shared output) [] (rw e) (record { refusal = rw k.2; device = k.0; sender = k.1; store = refl }))
@@ -207,9 +206,9 @@ module _ (r : Rounded) (d : Device) (store : List ℕ) (s : Sender) (file : List
   unfolding call_check does lent kept
   worked_ends e next n k = rw left_is (goes_on_lem r _ file (nothing_sent d store s) (works shared) _ e (rw (n, left_is) at k))
 
-  pub worked-stopped : (g : Refusal) → work d (length store) ≡ refused (refusal_number g) → Stopped r (after_work d (work d (length store))) s g → Ends r left file (nothing_sent d store s) calls
-  unfolding call_check answer_check lent store_after after_work
-  worked-stopped g e k = ends_here r left file (nothing_sent d store s) (works shared) _ g (rw e) (rw e at k) (left_is ∙ rw e)
+  pub worked-stopped : (g : Refusal) → work d (length store) ≡ refused (refusal_number g) → Stopped r d s g → Ends r left file (nothing_sent d store s) calls
+  unfolding call_check answer_check lent store_after
+  worked-stopped g e k = ends_here r left file (nothing_sent d store s) (works shared) _ g (rw e) k (left_is ∙ rw e)
 
 -- A round by its work step.
 module _ (r : Rounded) (store file : List ℕ) (w : World Sender) (round : Round) where

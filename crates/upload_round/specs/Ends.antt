@@ -1,11 +1,8 @@
 -- What the parts of a round are promised to leave (document 01, "The sender and its rounds").
-use Rattle.std.specs.Prelude.{ℕ, ◌≤◌, Bool, true, false, List, [], ◌≡◌, length, take}
+use Rattle.std.specs.Prelude.{ℕ, ◌≤◌, Bool, true, false, List, [], ◌≡◌, length, take, None, Option, Some, Err, Ok, Result}
 use Rattle.message_rules.specs.Answer.{verdict_result}
 use Rattle.message_rules.specs.declared.Refusal.{Refusal}
-use Rattle.message_rules.specs.declared.Verdict.TheVariants.{Refused}
 use Rattle.device_rules.specs.declared.Device.{Device}
-use Rattle.device_rules.specs.declared.Outcome.{Outcome}
-use Rattle.device_rules.specs.declared.Outcome.TheVariants as OutcomeOf
 use Rattle.device_rules.specs.declared.Received.{Received}
 use Rattle.round_rules.specs.Rounds.{nothing_sent, made, first_refusal}
 use Rattle.round_rules.specs.Schedule.{exchange, requested}
@@ -45,24 +42,24 @@ pub record Heard (r : Rounded) (d : Device) (s : Sender) (file answer : List ℕ
 pub record Stopped (r : Rounded) (d : Device) (s : Sender) (f : Refusal) : Type 0 where
   pub device : r.device ≡ d
   pub sender : r.sender ≡ s
-  pub verdict : r.verdict ≡ Refused f
+  pub verdict : r.verdict ≡ Err f
 
 -- After the arrivals of a request, `left` being what the answer's array holds then. Whoever goes on as the outcome says has made the exchange of this fate: the
 -- sender hears the answer at the array's start, or no bytes where none comes back, or the round ends where the call was refused.
 pub record Arrived (r : Received) (left : List ℕ) (d : Device) (f : Fate) (store request : List ℕ) : Type 0 where
-  pub answer : (n : ℕ) → r.outcome ≡ OutcomeOf.Answer n → n ≤ length left
-  pub heard : (n : ℕ) → r.outcome ≡ OutcomeOf.Answer n → (z : Rounded) (s : Sender) (file : List ℕ) → Heard z r.device s file (take n left) → Exchanged z d s f file store request
-  pub silent : r.outcome ≡ OutcomeOf.Silent → (z : Rounded) (s : Sender) (file : List ℕ) → Heard z r.device s file [] → Exchanged z d s f file store request
-  pub refused : (g : Refusal) → r.outcome ≡ OutcomeOf.Refused g → (z : Rounded) (s : Sender) (file : List ℕ) → Stopped z r.device s g → Exchanged z d s f file store request
+  pub answer : (n : ℕ) → r.outcome ≡ Ok (Some n) → n ≤ length left
+  pub heard : (n : ℕ) → r.outcome ≡ Ok (Some n) → (z : Rounded) (s : Sender) (file : List ℕ) → Heard z r.device s file (take n left) → Exchanged z d s f file store request
+  pub silent : r.outcome ≡ Ok None → (z : Rounded) (s : Sender) (file : List ℕ) → Heard z r.device s file [] → Exchanged z d s f file store request
+  pub refused : (g : Refusal) → r.outcome ≡ Err g → (z : Rounded) (s : Sender) (file : List ℕ) → Stopped z r.device s g → Exchanged z d s f file store request
 
 -- An outcome whose answer is lost: nobody hears it, and a refusal stays one.
-unfoldable pub unheard : Outcome → Outcome
-unheard (OutcomeOf.Answer n) = OutcomeOf.Silent
-unheard OutcomeOf.Silent = OutcomeOf.Silent
-unheard (OutcomeOf.Refused f) = OutcomeOf.Refused f
+unfoldable pub unheard : Result (Option ℕ) Refusal → Result (Option ℕ) Refusal
+unheard (Ok (Some n)) = Ok None
+unheard (Ok None) = Ok None
+unheard (Err f) = Err f
 
 -- Whether an arrival was refused.
-unfoldable pub is_refused : Outcome → Bool
-is_refused (OutcomeOf.Answer n) = false
-is_refused OutcomeOf.Silent = false
-is_refused (OutcomeOf.Refused f) = true
+unfoldable pub is_refused : Result (Option ℕ) Refusal → Bool
+is_refused (Ok (Some n)) = false
+is_refused (Ok None) = false
+is_refused (Err f) = true

@@ -1,13 +1,14 @@
-// The exchange of a round. Request and answer go through an array of 522 bytes each, which every message of every link fits.
+// The exchange of a round. Request and answer go through an array of 522 bytes each, which every message of every link fits. A function takes those of
+// unit, sender, file and store alone that its part needs, so that no part holds a copy of the others.
 ghost use Rattle.std.specs.Prelude.{◌≡◌, length};
 ghost use Rattle.round_rules.specs.Schedule.{output};
-ghost use Rattle.upload_round.specs.Ends.{Requested, Exchanged, Arrived, unheard, is_refused, Heard, Stopped};
+ghost use Rattle.upload_round.specs.Ends.{Requested, Exchanged, Arrived, Heard, Stopped};
 
 use crate::Rounded;
-use device::{Device, Outcome, Received};
-use message_rules::{Refusal, Verdict};
+use device::{Device, Received};
+use message_rules::Refusal;
 use round_rules::Fate;
-use sender_rules::{RequestAnswer, Sender, SenderAnswer};
+use sender_rules::Sender;
 
 // The sender's request, and what becomes of it. A sender that has ended sends none, and the round is over.
 pub(crate) fn requested(
@@ -19,15 +20,15 @@ pub(crate) fn requested(
 ) -> Rounded
     ensures { Requested result device sender fate file.now store.now }
 {
-    let mut request = [0u8; 522];
+    let mut request = [0; 522];
     match sender::request(sender, file, &mut request) {
-        RequestAnswer::Request(n) => sent(device, sender, file, store, &request[..n], fate),
-        RequestAnswer::Nothing => Rounded {
+        Ok(Some(n)) => sent(device, sender, file, store, &request[..n], fate),
+        Ok(None) => Rounded {
             device,
             sender,
-            verdict: Verdict::Passed,
+            verdict: Ok(()),
         },
-        RequestAnswer::Refused(refusal) => stopped(device, sender, refusal),
+        Err(refusal) => stopped(device, sender, refusal),
     }
 }
 
@@ -42,19 +43,18 @@ fn sent(
 ) -> Rounded
     ensures { Exchanged result device sender fate file.now store.now request.now }
 {
-    let mut answer = [0u8; 522];
+    let mut answer = [0; 522];
     let received = arrivals(device, fate, store, request, &mut answer);
-    let unit = received.device;
-    let outcome = received.outcome;
-    match outcome {
-        Outcome::Answer(n) => heard(unit, sender, file, &answer[..n]),
-        Outcome::Silent => heard(unit, sender, file, &[]),
-        Outcome::Refused(refusal) => stopped(unit, sender, refusal),
+    match received.outcome {
+        Ok(Some(n)) => heard(received.device, sender, file, &answer[..n]),
+        Ok(None) => heard(received.device, sender, file, &[]),
+        Err(refusal) => stopped(received.device, sender, refusal),
     }
 }
 
 // The arrivals of a request at the unit: none, one or two. Gives the unit afterwards and what comes back to the sender: an answer, at the start of answer,
-// nothing, or a refusal.
+// nothing, or a refusal. Where the answer is lost a refusal alone is left of an outcome; where the request arrives twice the second answer takes the place
+// of the first.
 fn arrivals(device: Device, fate: Fate, store: &[u8], request: &[u8], answer: &mut [u8]) -> Received
     requires { length answer.old ≡ length output }
     ensures { Arrived result answer.new device fate store.now request.now }
@@ -63,74 +63,35 @@ fn arrivals(device: Device, fate: Fate, store: &[u8], request: &[u8], answer: &m
         Fate::Delivered => device::receive(device, request, store, answer),
         Fate::RequestLost => Received {
             device,
-            outcome: Outcome::Silent,
+            outcome: Ok(None),
         },
-        Fate::AnswerLost => answer_lost(device, store, request, answer),
-        Fate::Twice => twice(device, store, request, answer),
+        Fate::AnswerLost => {
+            let received = device::receive(device, request, store, answer);
+            Received {
+                outcome: received.outcome.map(|_| None),
+                ..received
+            }
+        }
+        Fate::Twice => {
+            let first = device::receive(device, request, store, answer);
+            if first.outcome.is_err() {
+                return first;
+            }
+            device::receive(first.device, request, store, answer)
+        }
     }
 }
 
-// The request arrives, and the sender hears nothing.
-fn answer_lost(device: Device, store: &[u8], request: &[u8], answer: &mut [u8]) -> Received
-    requires { length answer.old ≡ length output }
-    ensures { Arrived result answer.new device Fate.AnswerLost store.now request.now }
-{
-    let received = device::receive(device, request, store, answer);
-    let unit = received.device;
-    let outcome = received.outcome;
-    Received {
-        device: unit,
-        outcome: unheard(outcome),
-    }
-}
-
-// What is left of an outcome where the answer is lost: a refusal alone.
-fn unheard(outcome: Outcome) -> Outcome
-    ensures { result ≡ unheard outcome }
-{
-    match outcome {
-        Outcome::Answer(_) => Outcome::Silent,
-        Outcome::Silent => Outcome::Silent,
-        Outcome::Refused(refusal) => Outcome::Refused(refusal),
-    }
-}
-
-// The request arrives, and arrives again: the second answer takes the place of the first.
-fn twice(device: Device, store: &[u8], request: &[u8], answer: &mut [u8]) -> Received
-    requires { length answer.old ≡ length output }
-    ensures { Arrived result answer.new device Fate.Twice store.now request.now }
-{
-    let first = device::receive(device, request, store, answer);
-    let outcome = first.outcome;
-    let unit = first.device;
-    if is_refused(outcome) {
-        first
-    } else {
-        device::receive(unit, request, store, answer)
-    }
-}
-
-fn is_refused(outcome: Outcome) -> bool
-    ensures { result ≡ is_refused outcome }
-{
-    match outcome {
-        Outcome::Answer(_) => false,
-        Outcome::Silent => false,
-        Outcome::Refused(_) => true,
-    }
-}
-
-// The sender's answer call, with the bytes that it hears, none where the request or its answer was lost or the unit gave none.
+// The sender's answer call, with the bytes that it hears, none where the request or its answer was lost or the unit gave none. A refused call leaves the
+// sender as it came.
 fn heard(device: Device, sender: Sender, file: &[u8], answer: &[u8]) -> Rounded
     ensures { Heard result device sender file.now answer.now }
 {
-    match sender::hear(sender, file, answer) {
-        SenderAnswer::Sender(next) => Rounded {
-            device,
-            sender: next,
-            verdict: Verdict::Passed,
-        },
-        SenderAnswer::Refused(refusal) => stopped(device, sender, refusal),
+    let next = sender::hear(sender, file, answer);
+    Rounded {
+        device,
+        sender: next.unwrap_or(sender),
+        verdict: next.map(|_| ()),
     }
 }
 
@@ -141,6 +102,6 @@ fn stopped(device: Device, sender: Sender, refusal: Refusal) -> Rounded
     Rounded {
         device,
         sender,
-        verdict: Verdict::Refused(refusal),
+        verdict: Err(refusal),
     }
 }

@@ -12,7 +12,7 @@ ghost use Rattle.round_rules.specs.Rounds.{nothing_sent, round_made, round_refus
 ghost use Rattle.sender_rules.specs.Sending.{sending};
 
 use device::Device;
-use message_rules::Verdict;
+use message_rules::Refusal;
 use round_rules::Round;
 use sender_rules::Sender;
 
@@ -22,7 +22,7 @@ use sender_rules::Sender;
 pub struct Rounded {
     pub device: Device,
     pub sender: Sender,
-    pub verdict: Verdict,
+    pub verdict: Result<(), Refusal>,
 }
 
 // Runs a round with the unit's store and the sender's file.
@@ -32,20 +32,16 @@ pub fn round(device: Device, sender: Sender, round: Round, file: &[u8], store: &
     ensures sender_value { result.sender ≡ (round_made (sending file.now) (nothing_sent device store.old sender) round).requester }
     ensures store_after { store.new ≡ (round_made (sending file.now) (nothing_sent device store.old sender) round).store }
 {
-    let fate = round.fate;
     if !round.worked {
-        return exchange::requested(device, sender, fate, file, store);
+        return exchange::requested(device, sender, round.fate, file, store);
     }
-    let stepped = device::work(device, store);
-    let unit = stepped.device;
-    let verdict = stepped.verdict;
-    match verdict {
-        Verdict::Passed => exchange::requested(unit, sender, fate, file, store),
+    match device::work(device, store) {
+        Ok(next) => exchange::requested(next, sender, round.fate, file, store),
         // Made in place: a function that is given the unit would copy it.
-        Verdict::Refused(refusal) => Rounded {
-            device: unit,
+        Err(refusal) => Rounded {
+            device,
             sender,
-            verdict: Verdict::Refused(refusal),
+            verdict: Err(refusal),
         },
     }
 }

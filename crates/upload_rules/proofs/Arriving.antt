@@ -1,4 +1,5 @@
 -- What an arrival of the sender's request does to the table, and what the unit's answer to it means. One line for each situation.
+use Rattle.std.specs.Prelude.{None, Option, Some, ℕ}
 use Prim.Native.Nat.{ℕ, ◌+◌, ◌<◌}
 use mathlib.Core.Bool.{Bool, true, false, ◌||◌}
 use mathlib.Core.List.{List, ◌++◌}
@@ -12,10 +13,7 @@ use Rattle.message_rules.specs.Answer.{given}
 use Rattle.message_rules.specs.Kinds.{carried_on}
 use Rattle.little_endian_rules.proofs.Laws.{to-length, from_to_lem}
 use Rattle.file_rules.specs.File.{file_frame}
-use Rattle.file_rules.specs.Setup.{setup_read, setup_payload}
-use Rattle.file_rules.specs.declared.Job.{Job}
-use Rattle.file_rules.specs.declared.Job.TheVariants as JobOf
-use Rattle.file_rules.specs.declared.SetupAnswer.TheVariants as SetupAnswerOf
+use Rattle.file_rules.specs.Setup.{setup_read, setup_payload, announced}
 use Rattle.file_rules.proofs.Frames.{frame-most}
 use Rattle.file_rules.proofs.Setup.{written_read}
 use Rattle.link_rules.specs.Link.{link_carried, link_read}
@@ -123,10 +121,10 @@ module _ (u : Upload) (b : List ℕ) (f since rounds : ℕ) (h : f < frames u) w
       }
 
   -- What the setup says, where the sender has a job.
-  says : (job : Job) → Announces job u.number → JobAt Setup job → setup_read (setup_payload (length u.file) job) ≡ SetupAnswerOf.Setup (length u.file) u.number
+  says : (job : Option ℕ) → Announces job u.number → JobAt Setup job → setup_read (setup_payload (length u.file) job) ≡ announced (length u.file) u.number
   unfolding setup_payload
-  says (JobOf.Number n) a j = rw a.0 (written_read (length u.file) u.number (omega (arith, (count-legal (length u.file) u.legal).2)) a.1)
-  says JobOf.None a j = elim j [ ]
+  says (Some n) a j = rw a.0 (written_read (length u.file) u.number (omega (arith, (count-legal (length u.file) u.legal).2)) a.1)
+  says None a j = elim j [ ]
 
   pub arrival : (d : Bool) (stage : Stage) (c : Situation) (i : ℕ) (buffer : List ℕ) (buffered : ℕ) → Reads stage → JobAt stage u.job → Stands stage c f i → Quiet d stage c
       → Holding u c i (take buffered buffer) → Arrival d stage (unit_in u c i buffer buffered) i (arrived_situation stage c)

@@ -1,4 +1,5 @@
 -- The sender's request call: what it writes at each stage is legal on every link, so it is under way as the unit will read it.
+use Rattle.std.specs.Prelude.{None, Option, Some, ℕ}
 use Prim.Native.Nat.{ℕ, ◌≤◌, zero-le}
 use mathlib.Core.Bool.{Bool, true, false}
 use mathlib.Core.List.{List}
@@ -12,8 +13,6 @@ use Rattle.message_rules.specs.Checks.{id_legal, payload_legal, error_legal, fie
 use Rattle.message_rules.specs.Kinds.{inside}
 use Rattle.little_endian_rules.proofs.Laws.{to-length}
 use Rattle.file_rules.specs.Setup.{setup_payload}
-use Rattle.file_rules.specs.declared.Job.{Job}
-use Rattle.file_rules.specs.declared.Job.TheVariants as JobOf
 use Rattle.file_rules.proofs.Frames.{frame-most}
 use Rattle.file_rules.proofs.Setup.{written-length}
 use Rattle.link_rules.proofs.RoundTrip.{Underway, Arrives}
@@ -38,12 +37,12 @@ unrefused out x a b e h = rw e (by (leb (length b) (length out)) refl (rw e at h
     by false q h = absurd (let z : ◌≡◌ {A = ℕ} 0 1 = cc (rw q at h) in omega arith)
 
 -- Every request is legal for its kind: a setup has few bytes.
-setup-most : (n : ℕ) (job : Job) → length (setup_payload n job) ≤ 256
+setup-most : (n : ℕ) (job : Option ℕ) → length (setup_payload n job) ≤ 256
 unfolding setup_payload
-setup-most n JobOf.None = omega arith
-setup-most n (JobOf.Number number) = omega (arith, written-length n number)
+setup-most n None = omega arith
+setup-most n (Some number) = omega (arith, written-length n number)
 
-request-plain : (stage : Stage) (s t : ℕ) (job : Job) (file : List ℕ) (f : ℕ) → Plain (request_of (request_kind stage) (request_id stage) s t) (request_payload stage job file f)
+request-plain : (stage : Stage) (s t : ℕ) (job : Option ℕ) (file : List ℕ) (f : ℕ) → Plain (request_of (request_kind stage) (request_id stage) s t) (request_payload stage job file f)
 unfolding error_told field_checks id_legal payload_legal error_legal inside require request_payload
 request-plain Setup s t job file f = record { plain = refl; tells = refl; fields = rw (le-leb 0 _ zero-le, le-leb _ 256 (setup-most (length file) job)) }
 request-plain Frame s t job file f = record { plain = refl; tells = refl; fields = rw (le-leb 0 _ zero-le, le-leb _ 256 (frame-most file f)) }

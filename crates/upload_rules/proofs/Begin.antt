@@ -1,5 +1,6 @@
 -- The two beginnings of demand 3 stand at the head of the table: an accepted setup and a sender at A, or a sender that has the setup to send. Carried by
 -- taking the unit's and the sender's own definitions apart: which tests passed, and what was made then.
+use Rattle.std.specs.Prelude.{None, Option, Some, ℕ}
 use Prim.Native.Nat.{ℕ, zero-le}
 use mathlib.Core.Bool.{true, false}
 use mathlib.Core.List.{List, []}
@@ -12,15 +13,11 @@ use Rattle.message_rules.proofs.Answers.{after-given}
 use Rattle.message_rules.specs.Answer.{given}
 use Rattle.message_rules.proofs.Checks.{require-passed, both_true}
 use Rattle.file_rules.specs.File.{size_legal}
-use Rattle.file_rules.specs.Setup.{is_job}
-use Rattle.file_rules.specs.declared.Job.{Job}
-use Rattle.file_rules.specs.declared.Job.TheVariants as JobOf
-use Rattle.file_rules.specs.declared.SetupAnswer.TheVariants.{Setup}
+use Rattle.file_rules.specs.Setup.{is_job, announced}
 use Rattle.link_rules.specs.declared.Link.{Link}
 use Rattle.link_rules.specs.declared.Link.TheVariants.{Uart, Rs485, Can, Csp}
 use Rattle.device_rules.specs.Faults.{setup_fault, command_fault}
 use Rattle.device_rules.specs.declared.Device.{Device}
-use Rattle.device_rules.specs.declared.Fault.TheVariants.{None}
 use Rattle.device_rules.specs.Commands.{new_transfer, setup_done, transfer_done, command_done}
 use Rattle.device_rules.specs.Device.{empty_buffer, with_transfer}
 use Rattle.sender_rules.specs.Hearing.{stage_steps}
@@ -53,17 +50,17 @@ addresses Can s t own h e = tt
 addresses Csp s t own h e = tt
 
 -- A job that is not the last finished one.
-other-job : (job : Job) (number : ℕ) → (job ≡ JobOf.Number number → ⊥) → is_job job number ≡ false
-other-job JobOf.None number other = refl
-other-job (JobOf.Number n) number other = ne_eqb n number (λ e. other (rw e))
+other-job : (job : Option ℕ) (number : ℕ) → (job ≡ Some number → ⊥) → is_job job number ≡ false
+other-job None number other = refl
+other-job (Some n) number other = ne_eqb n number (λ e. other (rw e))
 
 module _ (file : List ℕ) (w : World Sender) where
   -- What both beginnings give: the unit before the setup, which takes it, and the sender.
   pub record Grounds : Type 0 where
     pub unit : Device
     pub number : ℕ
-    pub taken : setup_fault unit (length w.store) (Setup (length file) number) ≡ None
-    pub job : Job
+    pub taken : setup_fault unit (length w.store) (announced (length file) number) ≡ None
+    pub job : Option ℕ
     pub announces : Announces job number
     pub source : ℕ
     pub destination : ℕ
@@ -96,7 +93,7 @@ module _ (file : List ℕ) (w : World Sender) where
     pub first : RunsOrEnded (upload grounds) w [] told_first
 
   -- A sender that was started on a unit's link, to its address.
-  module _ (unit : Device) (job : Job) (source destination : ℕ) (started : start unit.link source destination (length file) job ≡ given w.requester tt) where
+  module _ (unit : Device) (job : Option ℕ) (source destination : ℕ) (started : start unit.link source destination (length file) job ≡ given w.requester tt) where
     -- Its checks passed, and it is new.
     size_checked : size_legal (length file) ≡ true
     unfolding start
@@ -113,7 +110,7 @@ module _ (file : List ℕ) (w : World Sender) where
     is-new = sym (after-given _ _ w.requester tt tt started).1
 
     module _ (addressed : unit.link ≡ Rs485 → destination ≡ unit.own) (number : ℕ) (announces : Announces job number)
-        (taken : setup_fault unit (length w.store) (Setup (length file) number) ≡ None) where
+        (taken : setup_fault unit (length w.store) (announced (length file) number) ≡ None) where
       abbrev grounds : Grounds
       grounds =
           record {
@@ -163,7 +160,7 @@ module _ (file : List ℕ) (w : World Sender) where
 
   -- The accepted setup opened the unit, and the sender is at A.
   module _ (st : AcceptedSetup file w) where
-    setup-taken : setup_fault st.unit (length w.store) (Setup (length file) st.number) ≡ None
+    setup-taken : setup_fault st.unit (length w.store) (announced (length file) st.number) ≡ None
     unfolding command_fault
     setup-taken = rw (st.setup, st.announces) at st.no_fault
 
@@ -175,16 +172,16 @@ module _ (file : List ℕ) (w : World Sender) where
 
     after_setup_lem : Begun
     after_setup_lem =
-        let some = (count-legal (length file) (size_checked st.unit JobOf.None st.source st.destination st.started)).0 in
+        let some = (count-legal (length file) (size_checked st.unit None st.source st.destination st.started)).0 in
         let opened = setup_done_lem ∙ setup-unit st.unit (length file) st.number some in
-        stands_first st.unit JobOf.None st.source st.destination st.started st.addressed st.number tt setup-taken free opened (omega arith) refl refl refl tt refl
+        stands_first st.unit None st.source st.destination st.started st.addressed st.number tt setup-taken free opened (omega arith) refl refl refl tt refl
 
   -- The job's setup will be taken, and the sender has it to send.
   module _ (st : StartedJob file w) where
-    abbrev job : Job
-    job = JobOf.Number st.number
+    abbrev job : Option ℕ
+    job = Some st.number
 
-    job-taken : setup_fault w.device (length w.store) (Setup (length file) st.number) ≡ None
+    job-taken : setup_fault w.device (length w.store) (announced (length file) st.number) ≡ None
     job-taken =
         let legal = size_checked w.device job st.source st.destination st.started in
         let new = setup_unnamed (length file) st.number w.device (length w.store) (rw st.none_open) in

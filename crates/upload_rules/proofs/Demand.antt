@@ -1,5 +1,6 @@
 -- Demand 3: the invariant says each clause of the claim, at the end of a legal list and so of every beginning of it. Rounds that are run make
 -- what their calls make, and those are a legal list.
+use Rattle.std.specs.Prelude.{None, Option, Some, ℕ}
 use Prim.Native.Nat.{ℕ, zero, suc, ◌+◌, ◌*◌, ◌≤◌, ◌<◌, min}
 use mathlib.Core.Bool.{Bool, true, false, cond, ◌&&◌}
 use mathlib.Core.List.{List, []}
@@ -24,8 +25,6 @@ use Rattle.round_rules.proofs.Lists.{every-beginning, told_part}
 use Rattle.round_rules.proofs.Runs.{Same, runs as made-runs}
 use Rattle.round_rules.proofs.Schedules.{goods-length, schedules}
 use Rattle.round_rules.proofs.Steady.{runs, ended, Invariant, note, keeps}
-use Rattle.file_rules.specs.declared.Job.{Job}
-use Rattle.file_rules.specs.declared.Job.TheVariants as JobOf
 use Rattle.upload_rules.specs.Demand.{Holds, Claim, EveryUpload, Upheld, Demand, EverySchedule}
 use Rattle.upload_rules.specs.SetUp.{set_up_call}
 use Rattle.sender_rules.specs.Hearing.{job_steps}
@@ -148,11 +147,11 @@ module _ (u : Upload) (w : World Sender) (past : List Bool) (told : Told) where
   used (ended (done h)) = rw h.sends
 
   -- A sender that has finished has its job remembered.
-  remembers : (job : Job) → Announces job u.number → (n : ℕ) → job ≡ JobOf.Number n → u.number ≡ n
-  remembers JobOf.None a n e = absurd (let z : ◌≡◌ {A = ℕ} 0 1 = cc in omega arith)
-  remembers (JobOf.Number m) a n e = let same : m ≡ n = cc in sym a.0 ∙ same
+  remembers : (job : Option ℕ) → Announces job u.number → (n : ℕ) → job ≡ Some n → u.number ≡ n
+  remembers None a n e = absurd (let z : ◌≡◌ {A = ℕ} 0 1 = cc in omega arith)
+  remembers (Some m) a n e = let same : m ≡ n = cc in sym a.0 ∙ same
 
-  job-kept : {p : Place} → Invariant (shape u) w past told p → w.requester.state ≡ Finished → w.device.finished ≡ JobOf.Number u.number
+  job-kept : {p : Place} → Invariant (shape u) w past told p → w.requester.state ≡ Finished → w.device.finished ≡ Some u.number
   job-kept (runs h) e = absurd (let z : ◌≡◌ {A = ℕ} 0 1 = cc (rw h.sends at e) in omega arith)
   job-kept (ended (gave_up h)) e = absurd (let z : ◌≡◌ {A = ℕ} 0 1 = cc (rw h.sends at e) in omega arith)
   job-kept (ended (done h)) e = rw (h.unit.device, eq-eqb (frames u) (frames u) refl)
@@ -210,7 +209,7 @@ module _ (file : List ℕ) (w : World Sender) (b : Begun file w) where
   -- The claim, of unit, store and sender as some moment has them.
   claims : {set_up : Bool} {k : ℕ} {v : World Sender} {rounds : List Bool} → Holds file w.store set_up k v
       → Bounded (4 * frame_count (length file) + job_steps b.grounds.job) rounds v.requester.state
-      → (v.requester.state ≡ Finished → v.device.finished ≡ JobOf.Number b.grounds.number) → Claim file w set_up k v rounds
+      → (v.requester.state ≡ Finished → v.device.finished ≡ Some b.grounds.number) → Claim file w set_up k v rounds
   claims {v = v} h bound kept =
       let g = b.grounds in
       let job = same-job this w [] first b.first in
@@ -219,7 +218,7 @@ module _ (file : List ℕ) (w : World Sender) (b : Begun file w) where
         ended = λ most. bound.ended (omega (arith, rw job at most));
         persists = bound.persists;
         finishes = λ none most. bound.finishes none (rw job at most);
-        remembered = λ e n is. kept e ∙ ap JobOf.Number (remembers this w [] first g.job g.announces n (sym job ∙ is));
+        remembered = λ e n is. kept e ∙ ap Some (remembers this w [] first g.job g.announces n (sym job ∙ is));
       }
 
   bound : {h : List Call} {rounds : List Bool} → Legal (sending file) w between h rounds
@@ -227,7 +226,7 @@ module _ (file : List ℕ) (w : World Sender) (b : Begun file w) where
   bound legal = bounds this _ _ _ (reached legal).1
 
   kept-job : {h : List Call} {rounds : List Bool} → Legal (sending file) w between h rounds
-      → let v = run (sending file) w h in v.requester.state ≡ Finished → v.device.finished ≡ JobOf.Number b.grounds.number
+      → let v = run (sending file) w h in v.requester.state ≡ Finished → v.device.finished ≡ Some b.grounds.number
   kept-job legal = job-kept this _ _ _ (reached legal).1
 
   upheld : (h : List Call) (rounds : List Bool) → Legal (sending file) w between h rounds → Upheld file w h rounds

@@ -1,5 +1,6 @@
 -- The link enters the upload here alone: a request arrives at the unit as it was asked, and the unit's answer at the sender as it was
 -- given, from the unit's address to the sender's. Carried by the links' round trip.
+use Rattle.std.specs.Prelude.{Some}
 use Prim.Native.Nat.{ℕ, ◌<◌}
 use mathlib.Core.Bool.{true, false, not, ◌&&◌, ◌||◌}
 use mathlib.Core.List.{List}
@@ -11,7 +12,6 @@ use lib.ListN.{length}
 use Rattle.message_rules.specs.Answer.{passed}
 use Rattle.message_rules.specs.Checks.{payload_legal, field_checks, error_told}
 use Rattle.message_rules.specs.Kinds.{is_event, carried_on}
-use Rattle.message_rules.specs.declared.ErrorByte.TheVariants.{Told}
 use Rattle.message_rules.specs.declared.Kind.{Kind}
 use Rattle.message_rules.specs.declared.Message.{Message}
 use Rattle.link_rules.specs.Link.{carries_addresses, link_carried}
@@ -35,7 +35,7 @@ Addressed Csp s t own = Unit
 
 -- A request from s to t.
 abbrev pub request_of : Kind → ℕ → ℕ → ℕ → Message
-request_of k id s t = record { kind = k; id = id; source = s; destination = t; error = Told 0; index = 0 }
+request_of k id s t = record { kind = k; id = id; source = s; destination = t; error = Some 0; index = 0 }
 
 -- The request of a stage, and as the unit reads it.
 abbrev pub request_at : ℕ → ℕ → Stage → Message

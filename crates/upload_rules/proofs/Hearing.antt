@@ -1,4 +1,5 @@
 -- What the sender's answer call does to the table: a step forward, a round more without one, or the end.
+use Rattle.std.specs.Prelude.{None, Option, Some, ℕ}
 use Prim.Native.Nat.{ℕ, ◌+◌, ◌*◌, ◌%◌, ◌<◌}
 use mathlib.Core.Bool.{Bool, true, false}
 use mathlib.Core.List.{List, [], ◌∷◌, ◌++◌}
@@ -7,8 +8,6 @@ use native.Mathlib.Omega.{arith}
 use borrow.Author.Tests.{ltb-true, ltb-false}
 use lib.Dec.{ltb}
 use lib.ListN.{length}
-use Rattle.file_rules.specs.declared.Job.{Job}
-use Rattle.file_rules.specs.declared.Job.TheVariants as JobOf
 use Rattle.sender_rules.specs.Hearing.{stage_steps, most_waits, one_more, waited, has_next, advanced, round_over}
 use Rattle.sender_rules.specs.declared.Meaning.TheVariants.{Stay, Forward}
 use Rattle.sender_rules.specs.declared.Sender.{Sender}
@@ -33,9 +32,9 @@ unfolding has_next
 next-frame u f since rounds e = ltb-true (f + 1) (frames u) e
 
 -- Setup's ack is a step: a sender at that stage has a job.
-set_up_lem : (job : Job) → JobAt Setup job → (f : ℕ) → 4 * f + stage_steps job Setup + 1 ≡ 4 * f + stage_steps job Frame
-set_up_lem (JobOf.Number n) j f = omega arith
-set_up_lem JobOf.None j f = elim j [ ]
+set_up_lem : (job : Option ℕ) → JobAt Setup job → (f : ℕ) → 4 * f + stage_steps job Setup + 1 ≡ 4 * f + stage_steps job Frame
+set_up_lem (Some n) j f = omega arith
+set_up_lem None j f = elim j [ ]
 
 module _ (u : Upload) (w : World Sender) (past : List Bool) (told : Told) where
   abbrev pub handed : Sender → World Sender

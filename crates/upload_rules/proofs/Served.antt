@@ -1,5 +1,6 @@
 -- What an exchange does at each stage, in each situation of the unit: the unit afterwards, and what its answer means to the sender. Carried
 -- by the faults of `Faults` and by the exchange over the link.
+use Rattle.std.specs.Prelude.{Option, ℕ, None}
 use Prim.Native.Nat.{ℕ, ◌+◌, ◌*◌, ◌-◌, ◌/◌, ◌%◌, ◌≤◌, ◌<◌, min}
 use mathlib.Core.Bool.{Bool, true, false, cond}
 use mathlib.Core.List.{List, [], ◌++◌}
@@ -16,9 +17,7 @@ use Rattle.message_rules.specs.declared.Kind.TheVariants.{TelecommandAck, Teleco
 use Rattle.message_rules.specs.declared.Message.{Message}
 use Rattle.little_endian_rules.specs.LittleEndian.{to_bytes}
 use Rattle.file_rules.specs.File.{frame_count, file_frame}
-use Rattle.file_rules.specs.Setup.{setup_read}
-use Rattle.file_rules.specs.declared.Job.{Job}
-use Rattle.file_rules.specs.declared.SetupAnswer.TheVariants as SetupAnswerOf
+use Rattle.file_rules.specs.Setup.{setup_read, announced}
 use Rattle.link_rules.specs.Link.{link_carried, link_read, link_write}
 use Rattle.link_rules.specs.declared.Link.{Link}
 use Rattle.link_rules.proofs.RoundTrip.{Underway, id-arrives}
@@ -28,7 +27,6 @@ use Rattle.device_rules.specs.declared.Transfer.{Transfer}
 use Rattle.device_rules.specs.declared.Phase.TheVariants.{Open, Finished}
 use Rattle.device_rules.specs.Commands.{setup_done, take_done, frame_done, transfer_done, command_done, after_command}
 use Rattle.device_rules.specs.Faults.{setup_fault, command_fault}
-use Rattle.device_rules.specs.declared.Fault.TheVariants.{None}
 use Rattle.device_rules.specs.Receive.{answers, answer_to, info_bytes, command_answer, command_reply, telemetry_reply, kind_reply, receive}
 use Rattle.sender_rules.specs.Hearing.{fits, taken_error, ack_meaning, nack_meaning, info_meaning, kind_meaning, meaning}
 use Rattle.sender_rules.specs.Sender.{request_kind, request_id}
@@ -72,7 +70,7 @@ no_event Take = refl
 no_event Confirm = refl
 
 -- A unit with a transfer of a file of n bytes for a job, and a sender at frame i of it.
-module _ (d : Device) (s t : ℕ) (a : Addressed d.link s t d.own) (file : List ℕ) (n number : ℕ) (job : Job) (i store : ℕ) where
+module _ (d : Device) (s t : ℕ) (a : Addressed d.link s t d.own) (file : List ℕ) (n number : ℕ) (job : Option ℕ) (i store : ℕ) where
   abbrev l : Link
   l = d.link
 
@@ -80,7 +78,7 @@ module _ (d : Device) (s t : ℕ) (a : Addressed d.link s t d.own) (file : List 
   own = d.own
 
   -- Of the unit only its transfer and its last finished job change.
-  abbrev with : Transfer → Job → Device
+  abbrev with : Transfer → Option ℕ → Device
   with transfer finished = record { link = d.link; own = d.own; transfer = transfer; finished = finished }
 
   abbrev unit : ℕ → List ℕ → ℕ → Bool → Device
@@ -94,7 +92,7 @@ module _ (d : Device) (s t : ℕ) (a : Addressed d.link s t d.own) (file : List 
   answer_to_lem stage k e index = answer_of l own (asked stage) k e index
 
   module _ (stage : Stage) (since rounds : ℕ) (b p : List ℕ) (reads : link_read l b ≡ given (asked stage) p) where
-    served : (transfer : Transfer) (finished : Job) (d' : Device) (k : Kind) (e index : ℕ) (q : List ℕ) (x : Meaning)
+    served : (transfer : Transfer) (finished : Option ℕ) (d' : Device) (k : Kind) (e index : ℕ) (q : List ℕ) (x : Meaning)
         → kind_reply (request_kind stage) (with transfer finished) store (asked stage) p ≡ about (answers d') (link_write l (answer_to_lem stage k e index) q)
         → Plain (answer_to_lem stage k e index) q
         → kind_meaning k (sender_at l s t n job i stage since rounds Running) file (link_carried l (answer_to_lem stage k e index)) q ≡ x
@@ -118,14 +116,14 @@ module _ (d : Device) (s t : ℕ) (a : Addressed d.link s t d.own) (file : List 
     sender stage = sender_at l s t n job i stage since rounds Running
 
     -- Before A: the setup opens a transfer, and is acked;
-    pub served_setup : (p : List ℕ) → link_read l b ≡ given (asked Setup) p → setup_read p ≡ SetupAnswerOf.Setup n number → setup_fault d store (SetupAnswerOf.Setup n number) ≡ None
+    pub served_setup : (p : List ℕ) → link_read l b ≡ given (asked Setup) p → setup_read p ≡ announced n number → setup_fault d store (announced n number) ≡ None
         → 1 ≤ frame_count n → Served file (sender Setup) d store b (unit 0 empty_buffer 0 false) Forward
     unfolding link_carried carried_on kind_reply command_reply command_answer after_command command_fault command_done transfer_done setup_done answer_to error_told field_checks id_legal payload_legal error_legal inside require kind_meaning ack_meaning
     served_setup p reads says taken some =
         served Setup since rounds b p reads d.transfer d.finished _ TelecommandAck 0 0 [] Forward (rw (says, taken, says, ← setup-unit d n number some)) (record { plain = refl; tells = refl; fields = refl }) refl
 
     -- as its repeat is, which changes nothing.
-    pub served_repeat : (p : List ℕ) → link_read l b ≡ given (asked Setup) p → setup_read p ≡ SetupAnswerOf.Setup n number → i < frame_count n
+    pub served_repeat : (p : List ℕ) → link_read l b ≡ given (asked Setup) p → setup_read p ≡ announced n number → i < frame_count n
         → Served file (sender Setup) (unit i buffer buffered false) store b (unit i buffer buffered false) Forward
     unfolding link_carried carried_on kind_reply command_reply command_answer after_command command_fault answer_to error_told field_checks id_legal payload_legal error_legal inside require kind_meaning ack_meaning
     served_repeat p reads says h =

@@ -1,4 +1,6 @@
 -- The table of situations: where unit and sender stand while the setup or frame f is under way, at every place of a round.
+use Rattle.file_rules.specs.Setup.{announced}
+use Rattle.std.specs.Prelude.{None, Option, Some, ℕ}
 use Prim.Native.Nat.{ℕ, ◌+◌, ◌*◌, ◌≤◌, ◌<◌, min}
 use mathlib.Core.Bool.{Bool, true, false, cond, ◌&&◌}
 use mathlib.Core.List.{List, ◌++◌}
@@ -8,13 +10,9 @@ use native.Mathlib.Omega.{arith}
 use lib.ListN.{length, take, drop}
 use Rattle.message_rules.specs.declared.Message.{Message}
 use Rattle.file_rules.specs.File.{size_legal, frame_count, file_frame}
-use Rattle.file_rules.specs.declared.Job.{Job}
-use Rattle.file_rules.specs.declared.Job.TheVariants as JobOf
-use Rattle.file_rules.specs.declared.SetupAnswer.TheVariants as SetupAnswerOf
 use Rattle.link_rules.specs.Link.{link_read}
 use Rattle.device_rules.specs.Faults.{setup_fault}
 use Rattle.device_rules.specs.declared.Device.{Device}
-use Rattle.device_rules.specs.declared.Fault.TheVariants.{None}
 use Rattle.sender_rules.specs.Hearing.{meaning, job_steps, stage_steps}
 use Rattle.sender_rules.specs.Sender.{request_payload}
 use Rattle.sender_rules.specs.declared.Meaning.{Meaning}
@@ -36,9 +34,9 @@ use Rattle.sender_rules.proofs.Steps.{JobAt}
 use Rattle.round_rules.proofs.Steady.{Either}
 
 -- A sender with a job announces this number.
-abbrev pub Announces : Job → ℕ → Type 0
-Announces JobOf.None number = Unit
-Announces (JobOf.Number n) number = (n ≡ number) × (number < 4294967296)
+abbrev pub Announces : Option ℕ → ℕ → Type 0
+Announces None number = Unit
+Announces (Some n) number = (n ≡ number) × (number < 4294967296)
 
 -- What stays the same all along: the file, the store as the setup found it, the unit before it, which takes it, the number of the transfer's job, and
 -- the sender's job and addresses.
@@ -47,8 +45,8 @@ pub record Upload : Type 0 where
   pub start : List ℕ
   pub unit : Device
   pub number : ℕ
-  pub taken : setup_fault unit (length start) (SetupAnswerOf.Setup (length file) number) ≡ None
-  pub job : Job
+  pub taken : setup_fault unit (length start) (announced (length file) number) ≡ None
+  pub job : Option ℕ
   pub announces : Announces job number
   pub source : ℕ
   pub destination : ℕ
@@ -100,7 +98,7 @@ Stands Confirm free f i = i ≡ f + 1
 Stands Confirm loaded f i = ⊥
 Stands Confirm pending f i = i ≡ f
 
-pub few_steps : (job : Job) (stage : Stage) → stage_steps job stage ≤ job_steps job + 3
+pub few_steps : (job : Option ℕ) (stage : Stage) → stage_steps job stage ≤ job_steps job + 3
 few_steps job Setup = omega arith
 few_steps job Frame = omega arith
 few_steps job Back = omega arith
@@ -108,9 +106,9 @@ few_steps job Compare = omega arith
 few_steps job Take = omega arith
 few_steps job Confirm = omega arith
 
-pub job-most : (job : Job) → job_steps job ≤ 1
-job-most JobOf.None = omega arith
-job-most (JobOf.Number n) = omega arith
+pub job-most : (job : Option ℕ) → job_steps job ≤ 1
+job-most None = omega arith
+job-most (Some n) = omega arith
 
 -- A round whose work step was done does not find the unit still pending at D.
 abbrev pub Quiet : Bool → Stage → Situation → Type 0

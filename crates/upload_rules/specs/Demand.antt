@@ -1,20 +1,17 @@
 -- Demand 3 (document 01, "The sender and its rounds"): the owner's sentence of rounds that are run, and the same claim of every list of calls.
 -- Quotations that document 01 does not have are the demand's own words, or document 02's where that is said.
-use Rattle.std.specs.Prelude.{ℕ, ◌+◌, ◌*◌, ◌≤◌, ◌<◌, min, Bool, true, false, List, ◌++◌, ◌≡◌, length, take, drop}
+use Rattle.std.specs.Prelude.{ℕ, ◌+◌, ◌*◌, ◌≤◌, ◌<◌, min, Bool, true, false, List, ◌++◌, ◌≡◌, length, take, drop, None, Some}
 use Rattle.message_rules.specs.Answer.{given, passed, within}
 use Rattle.message_rules.specs.declared.Kind.TheVariants.{Telecommand}
 use Rattle.message_rules.specs.declared.Message.{Message}
 use Rattle.link_rules.specs.Link.{link_read}
 use Rattle.link_rules.specs.declared.Link.TheVariants.{Rs485}
 use Rattle.file_rules.specs.File.{frame_count}
-use Rattle.file_rules.specs.Setup.{setup_read}
-use Rattle.file_rules.specs.declared.Job.TheVariants as JobOf
-use Rattle.file_rules.specs.declared.SetupAnswer.TheVariants.{Setup}
+use Rattle.file_rules.specs.Setup.{setup_read, announced}
 use Rattle.device_rules.specs.Device.{is_open}
 use Rattle.device_rules.specs.declared.Device.{Device}
 use Rattle.device_rules.specs.declared.Phase.TheVariants as PhaseOf
 use Rattle.device_rules.specs.Faults.{command_fault}
-use Rattle.device_rules.specs.declared.Fault.TheVariants.{None}
 use Rattle.device_rules.specs.Answers.{after_receive}
 use Rattle.device_rules.specs.Receive.{Reply, addressing, receive}
 use Rattle.device_rules.specs.declared.Addressing.TheVariants.{Other}
@@ -47,7 +44,7 @@ pub record AcceptedSetup (file : List ℕ) (w : World Sender) : Type 0 where
   pub command : message.kind ≡ Telecommand
   pub setup : message.id ≡ 20
   pub number : ℕ
-  pub announces : setup_read payload ≡ Setup (length file) number
+  pub announces : setup_read payload ≡ announced (length file) number
   pub for_unit : addressing unit.link unit.own message ≡ Other → ⊥
   -- no fault kept the unit from carrying it out, and it was no repeat: "an acked repeat doesn't count as its accepted setup" (document 02,
   -- ticket 5); the call was not refused (the reply says whether it was answered, and the answer has the bytes, none in silence), and w has the unit
@@ -60,7 +57,7 @@ pub record AcceptedSetup (file : List ℕ) (w : World Sender) : Type 0 where
   -- and a sender was started on the same link for a file of this length, on RS485 to the unit's own address.
   pub source : ℕ
   pub destination : ℕ
-  pub started : start unit.link source destination (length file) JobOf.None ≡ given w.requester tt
+  pub started : start unit.link source destination (length file) None ≡ given w.requester tt
   pub addressed : unit.link ≡ Rs485 → destination ≡ unit.own
 
 -- Document 02, ticket 5: "Demand 3 may then begin there, its premises running from that sender's start,
@@ -68,17 +65,17 @@ pub record StartedJob (file : List ℕ) (w : World Sender) : Type 0 where
   -- for a unit that is idle or finished with nothing pending and no job open", everything else of it free,
   pub not_open : is_open w.device.transfer.phase ≡ false
   pub still : w.device.transfer.pending ≡ false
-  pub none_open : w.device.transfer.job ≡ JobOf.None
+  pub none_open : w.device.transfer.job ≡ None
   -- "a size that fits its store,
   pub fits : length file ≤ length w.store
   -- and a job number", of four bytes, "that isn't the last finished one";
   pub number : ℕ
   pub small : number < 4294967296
-  pub unfinished : w.device.finished ≡ JobOf.Number number → ⊥
+  pub unfinished : w.device.finished ≡ Some number → ⊥
   -- a sender was started with it on the unit's link for a file of this length, on RS485 to the unit's own address.
   pub source : ℕ
   pub destination : ℕ
-  pub started : start w.device.link source destination (length file) (JobOf.Number number) ≡ given w.requester tt
+  pub started : start w.device.link source destination (length file) (Some number) ≡ given w.requester tt
   pub addressed : w.device.link ≡ Rs485 → destination ≡ w.device.own
 
 -- The two beginnings of demand 3: it "begins as before", or it "may then begin there" (document 02, ticket 5).
@@ -111,7 +108,7 @@ pub record Claim (file : List ℕ) (w : World Sender) (set_up : Bool) (k : ℕ) 
   -- and has finished after four good rounds a frame", "one more good round" (document 02, ticket 5).
   pub finishes : NoFiftyWithout rounds → 4 * frame_count (length file) + job_steps w.requester.job ≤ good_rounds rounds → v.requester.state ≡ Finished
   -- When it has finished, its job is the unit's "last finished one" (document 02, ticket 5).
-  pub remembered : v.requester.state ≡ Finished → (n : ℕ) → w.requester.job ≡ JobOf.Number n → v.device.finished ≡ JobOf.Number n
+  pub remembered : v.requester.state ≡ Finished → (n : ℕ) → w.requester.job ≡ Some n → v.device.finished ≡ Some n
 
 -- The claim of a moment that calls h lead to: whether the setup has arrived, and k, are told from them.
 abbrev pub ClaimAfter : List ℕ → World Sender → List Call → World Sender → List Bool → Type 0

@@ -3,8 +3,9 @@ use Prim.Native.Nat.{ℕ, ◌+◌, ◌<◌}
 use mathlib.Core.Path.{◌≡◌, refl, ◌∙◌}
 use mathlib.Core.List.{◌++◌}
 use native.Mathlib.Omega.{arith}
-use Rattle.message_rules.proofs.Answers.{too_short, put-length}
-use lib.ListN.{length, length-append, length-drop}
+use Rattle.std.proofs.lemmas.Result.{err_from_is_err_and}
+use Rattle.message_rules.proofs.Answers.{too_short}
+use lib.ListN.{length, length-append}
 use Rattle.message_rules.specs.Answer.{write_result, counted, output_after}
 use Rattle.message_rules.proofs.Parts.{part-from, put-from}
 use Rattle.message_rules.specs.Kinds.{error_length}
@@ -25,24 +26,19 @@ returns-then-out-head c =
     rw length-append (omega (arith, head_length a.message)) in
     rw (too_short a.out.now (tt {0}) (csp_head a.message ++ a.payload.now) short) record { result_value = refl; out_after = refl }
 
-pub overflow_add-result : goal.overflow_add-result
-overflow_add-result c =
-    let e = rw part-from at c.put.ensures in
-    let s = put-length _ _ _ _ e.result_value e.out_after _ c.in-Length.is in
-    omega (arith, s.1, rw length-drop at s.0)
-
-pub returns-in-Refused : goal.returns-in-Refused
+pub returns-in_err-size : goal.returns-in_err-size
 unfolding write_result
-returns-in-Refused c =
+returns-in_err-size c =
     let a = c.args in
     let e = rw part-from at c.put.ensures in
-    let h = payload-refused (csp_head a.message) a.payload.now a.out.now _ _ _ (size a.message _ c.error_length-head.ensures) c.if-out-head.false e.result_value e.out_after _ c.in-Refused.is in
-    record { result_value = h.0; out_after = put-from _ _ _ c.if-out-head.false ∙ h.1 }
+    let h = payload-refused (csp_head a.message) a.payload.now a.out.now _ _ _ (size a.message _ c.error_length-head.ensures) c.if-out-head.false e.result_value e.out_after _ c.in_err-size.was in
+    let p = err_from_is_err_and c.from_residual.result c.from_residual.ensures.1 in
+    rw (p.1, p.2) record { result_value = h.0; out_after = put-from _ _ _ c.if-out-head.false ∙ h.1 }
 
-pub returns-in-Length : goal.returns-in-Length
+pub returns : goal.returns
 unfolding write_result
-returns-in-Length c =
+returns c =
     let a = c.args in
     let e = rw part-from at c.put.ensures in
-    let h = payload-put (csp_head a.message) a.payload.now a.out.now _ _ _ (size a.message _ c.error_length-head.ensures) c.if-out-head.false e.result_value e.out_after _ c.in-Length.is in
+    let h = payload-put (csp_head a.message) a.payload.now a.out.now _ _ _ (size a.message _ c.error_length-head.ensures) c.if-out-head.false e.result_value e.out_after _ c.in_ok-size.was in
     record { result_value = h.0; out_after = (rw (put-from _ _ _ c.if-out-head.false) at c.put_head.ensures) ∙ h.1 }

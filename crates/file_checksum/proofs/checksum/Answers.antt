@@ -8,20 +8,19 @@ use Rattle.file_rules.proofs.Table.{entries, by_table}
 use Rattle.file_rules.proofs.Checksum.{bytes_turn}
 use Rattle.file_checksum.proofs.checksum.Goals as goal
 
-pub loop-i-init : goal.loop-i-init
+pub loop-byte-init : goal.loop-byte-init
 unfolding checksum byte_step bit_steps high_first bit_step
-loop-i-init c = (omega arith, refl, omega arith, entries _ refl)
+loop-byte-init c = (refl, omega arith, entries _ refl)
 
-pub loop-i-preserved : goal.loop-i-preserved
-loop-i-preserved c =
-    let l = c.loop-i in
-    let step = by_table _ _ l.invariant.2 (c.type_inv.bytes c.loop-i.i).fits _ l.invariant.3 in (
-      omega arith,
-      rw step (bytes_turn _ l.i l.register c.loop-i-test.true) ∙ l.invariant.1,
-      rw step (byte_below _ _),
-      l.invariant.3,
+pub loop-byte-preserved : goal.loop-byte-preserved
+loop-byte-preserved c =
+    let l = c.loop-byte in
+    let step = by_table _ _ l.invariant.1 (c.type_inv.bytes l.byte-index).fits _ l.invariant.2 in (
+      rw (c.from.ensures, step) (bytes_turn _ l.byte-index l.register (omega arith)) ∙ l.invariant.0,
+      rw (c.from.ensures, step) (byte_below _ _),
+      l.invariant.2,
     )
 
 pub returns : goal.returns
 unfolding byte_steps
-returns c = rw (drop_of_length-le _ c.loop-i-test.false) at c.loop-i.invariant.1
+returns c = rw (drop_of_length-le _ c.loop-byte-test.false) at c.loop-byte.invariant.0

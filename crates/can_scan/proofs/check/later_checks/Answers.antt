@@ -1,57 +1,35 @@
--- Carried by the checks in their order: each return rewrites with those that led there.
-use mathlib.Core.Path.{sym, ◌∙◌}
-use native.Mathlib.Omega.{arith}
+-- Carried by the checks of a frame at any place: a number decides, and else its identifier and its count do.
+use mathlib.Core.Path.{sym}
 use borrow.Author.Tests.{eq-eqb, ne_eqb}
+use Rattle.std.proofs.lemmas.Result.{err_from_is_err_and}
 use Rattle.message_rules.specs.Answer.{verdict_result, require}
-use Rattle.can_rules.specs.Can.{later_checks}
-use Rattle.can_rules.proofs.Series.{later-dlc}
-use Rattle.can_scan.proofs.Checks.{later_checks-at}
+use Rattle.can_scan.proofs.Checks.{differ_told, later_failed, later_rest}
 use Rattle.can_scan.proofs.check.later_checks.Goals as goal
+use Rattle.can_scan.proofs.check.later_checks.Goals.{then-ne-via-then-ne, then-ne-via-else-ne+then-count-left}
 
-pub returns-then-not-type_legal : goal.returns-then-not-type_legal
-unfolding verdict_result require later_checks
-returns-then-not-type_legal c = rw (← c.type_legal.ensures, c.if-not-type_legal.true)
-
-pub returns-then-not-later_fits : goal.returns-then-not-later_fits
-unfolding verdict_result require later_checks
-returns-then-not-later_fits c =
-    let legal = sym c.type_legal.ensures ∙ c.if-not-type_legal.false in
-    rw (legal, sym c.later_fits.ensures ∙ c.if-not-later_fits.true)
-
-pub returns-then-not-zeros : goal.returns-then-not-zeros
-unfolding verdict_result require
-returns-then-not-zeros c =
-    let legal = sym c.type_legal.ensures ∙ c.if-not-type_legal.false in
-    let fits = sym c.later_fits.ensures ∙ c.if-not-later_fits.false in
-    rw (later_checks-at _ _ _ fits, legal, sym c.zeros.ensures ∙ c.if-not-zeros.true)
-
-pub returns-then-not-same_identifier : goal.returns-then-not-same_identifier
-unfolding verdict_result require
-returns-then-not-same_identifier c =
-    let legal = sym c.type_legal.ensures ∙ c.if-not-type_legal.false in
-    let fits = sym c.later_fits.ensures ∙ c.if-not-later_fits.false in
-    let clean = sym c.zeros.ensures ∙ c.if-not-zeros.false in
-    rw (later_checks-at _ _ _ fits, legal, clean, sym c.same_identifier.ensures ∙ c.if-not-same_identifier.true)
-
-pub bounds-frame-used : goal.bounds-frame-used
-bounds-frame-used c =
+pub returns-in_err-frame_checks : goal.returns-in_err-frame_checks
+unfolding verdict_result
+returns-in_err-frame_checks c =
     let a = c.args in
-    omega (arith, later-dlc a.left _ (sym c.later_fits.ensures ∙ c.if-not-later_fits.false))
+    let p = err_from_is_err_and c.from_residual.result c.from_residual.ensures.1 in
+    rw (p.1, p.2)
+    (sym (later_failed a.identifier.now a.left a.frame.now _ c.later_fits-fits.ensures.value _ (sym c.in_err-frame_checks.ensures.value)))
 
-pub returns-then-frame-used : goal.returns-then-frame-used
+pub returns-then-ne : goal.returns-then-ne
 unfolding verdict_result require
-returns-then-frame-used c =
-    let legal = sym c.type_legal.ensures ∙ c.if-not-type_legal.false in
-    let fits = sym c.later_fits.ensures ∙ c.if-not-later_fits.false in
-    let clean = sym c.zeros.ensures ∙ c.if-not-zeros.false in
-    let same = sym c.same_identifier.ensures ∙ c.if-not-same_identifier.false in
-    rw (later_checks-at _ _ _ fits, legal, clean, same, ne_eqb _ _ c.if-frame-used.true)
+returns-then-ne c =
+    let a = c.args in
+    let ok = c.in_ok-frame_checks.ensures in
+    let rest = later_rest a.identifier.now a.left a.frame.now _ c.later_fits-fits.ensures.value ok.passes (sym ok.value) in
+    elim c.then-ne.branch [
+      | then-ne-via-then-ne w ↦ rw (rest, differ_told _ _ _ c.ne.ensures, w.if-ne.true)
+      | then-ne-via-else-ne+then-count-left w ↦ rw (rest, differ_told _ _ _ c.ne.ensures, w.if-ne.false, ne_eqb _ _ w.if-count-left.true)
+    ]
 
 pub returns : goal.returns
 unfolding verdict_result require
 returns c =
-    let legal = sym c.type_legal.ensures ∙ c.if-not-type_legal.false in
-    let fits = sym c.later_fits.ensures ∙ c.if-not-later_fits.false in
-    let clean = sym c.zeros.ensures ∙ c.if-not-zeros.false in
-    let same = sym c.same_identifier.ensures ∙ c.if-not-same_identifier.false in
-    rw (later_checks-at _ _ _ fits, legal, clean, same, eq-eqb _ _ c.if-frame-used.false)
+    let a = c.args in
+    let ok = c.in_ok-frame_checks.ensures in
+    let rest = later_rest a.identifier.now a.left a.frame.now _ c.later_fits-fits.ensures.value ok.passes (sym ok.value) in
+    rw (rest, differ_told _ _ _ c.ne.ensures, c.if-ne.false, eq-eqb _ _ c.if-count-left.false)

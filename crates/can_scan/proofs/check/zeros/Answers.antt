@@ -1,13 +1,11 @@
--- Carried by the laws of one step: the test from the place reached on is the test of all.
-use mathlib.Core.Path.{sym, ◌∙◌}
-use Rattle.can_scan.proofs.Scanning.{zeros-step, zeros-stop, zeros-end}
+-- Carried by what `all` answers of a slice.
+use Rattle.std.proofs.Common.{eqb, ◌∙◌, rules, tests}
+use Rattle.std.proofs.lemmas.Iterator.{YieldsList-from_slice}
+use Rattle.std.proofs.lemmas.Iterator.Search.{all_from_yields_List}
+use Rattle.can_scan.proofs.Checks.{zeros_all}
 use Rattle.can_scan.proofs.check.zeros.Goals as goal
 
-pub returns-then-bytes-at-ne0 : goal.returns-then-bytes-at-ne0
-returns-then-bytes-at-ne0 c = sym (c.loop-at.invariant ∙ zeros-stop _ _ c.loop-at-test.true c.if-bytes-at-ne0.true)
-
-pub loop-at-preserved : goal.loop-at-preserved
-loop-at-preserved c = c.loop-at.invariant ∙ zeros-step _ _ c.loop-at-test.true c.if-bytes-at-ne0.false
-
 pub returns : goal.returns
-returns c = sym (c.loop-at.invariant ∙ zeros-end _ _ c.loop-at-test.false)
+returns c =
+    let s = c.args.bytes.now in
+    all_from_yields_List (λ b. eqb b 0) _ _ _ c.all.ensures.ran (YieldsList-from_slice s cc) (λ x b q k. search (rules, tests)) ∙ zeros_all s

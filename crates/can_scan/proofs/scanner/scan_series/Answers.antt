@@ -1,44 +1,49 @@
--- Carried by the laws of a later frame: what all frames come to is what those from the place reached on come to, after what was added up.
-use Prim.Native.Nat.{◌-◌}
-use mathlib.Core.Path.{◌≡◌, ap, sym, ◌∙◌}
-use native.Mathlib.Nat.{add-sub_cancel_left}
+-- Carried by the laws of a later frame: what all frames come to is what those left come to, after what was added up.
+use mathlib.Core.Path.{◌≡◌, sym}
 use native.Mathlib.Omega.{arith}
+use lib.ListN.{length-drop}
+use Rattle.std.proofs.lemmas.Result.{err_from_is_err_and}
 use Rattle.message_rules.specs.Answer.{verdict_result}
+use Rattle.message_rules.proofs.Parts.{part-from}
 use Rattle.can_scan.specs.Measured.{frames_result}
-use Rattle.can_scan.proofs.Scanning.{result_passed, ahead_first, ahead_cut, ahead_failed, ahead_passed, ahead_done}
+use Rattle.can_scan.proofs.Scanning.{ahead_first, ahead_cut, ahead_failed, ahead-dlc, ahead_passed, ahead_done}
 use Rattle.can_scan.proofs.scanner.scan_series.Goals as goal
 
 pub loop-left-init : goal.loop-left-init
-loop-left-init c = (c.requires.0, omega arith, ahead_first c.args.bytes.now c.requires.0 c.requires.1 c.requires.2)
+loop-left-init c = rw part-from record { within = rw length-drop (omega arith); ahead = ahead_first c.args.bytes.now c.requires.0 c.requires.1 c.requires.2 }
 
-pub returns-then-bytes-at-lt-FRAME_SIZE : goal.returns-then-bytes-at-lt-FRAME_SIZE
+pub returns-in_default : goal.returns-in_default
 unfolding frames_result
-returns-then-bytes-at-lt-FRAME_SIZE c =
+returns-in_default c =
     let l = c.loop-left in
-    let b = c.args.bytes.now in
-    sym (ahead_cut b l.at l.size l.left (l.left - 1) (omega arith) l.invariant.2 c.if-bytes-at-lt-FRAME_SIZE.true)
+    sym (ahead_cut _ _ _ l.left c.loop-left-test.true l.invariant.ahead c.in_default.ensures.cases)
 
-pub returns-in-Refused : goal.returns-in-Refused
+pub returns-in_err-later_checks : goal.returns-in_err-later_checks
 unfolding frames_result verdict_result
-returns-in-Refused c =
+returns-in_err-later_checks c =
     let l = c.loop-left in
-    let b = c.args.bytes.now in
-    let says = rw add-sub_cancel_left at c.later_checks.ensures in
-    sym (ahead_failed b l.at l.size l.left (l.left - 1) (omega arith) l.invariant.2 _ c.if-bytes-at-lt-FRAME_SIZE.false (sym says ∙ ap verdict_result c.in-Refused.is))
+    let p = err_from_is_err_and c.from_residual.result c.from_residual.ensures.1 in
+    rw (p.1, p.2) (sym (ahead_failed _ _ _ l.left c.loop-left-test.true l.invariant.ahead _ _ c.in-Some.ensures.cases _ (sym c.in_err-later_checks.ensures)))
 
 pub overflow_sub-size : goal.overflow_sub-size
-overflow_sub-size c = (result_passed _ _ _ c.loop-left.at _ c.later_checks.ensures c.in-Passed.is).1
+unfolding verdict_result
+overflow_sub-size c =
+    let l = c.loop-left in
+    (ahead-dlc _ _ _ l.left c.loop-left-test.true l.invariant.ahead _ _ c.in-Some.ensures.cases (sym c.in_ok-later_checks.ensures)).0
 
 pub loop-left-preserved : goal.loop-left-preserved
+unfolding verdict_result
 loop-left-preserved c =
     let l = c.loop-left in
-    let t = result_passed _ _ _ l.at _ c.later_checks.ensures c.in-Passed.is in
-    (omega (arith, l.invariant.0, c.if-bytes-at-lt-FRAME_SIZE.false), omega (arith, t.1, t.2, l.invariant.1), ahead_passed _ l.at l.size l.left (l.left - 1) (omega arith) l.invariant.2 c.if-bytes-at-lt-FRAME_SIZE.false t.0)
+    let d = ahead-dlc _ _ _ l.left c.loop-left-test.true l.invariant.ahead _ _ c.in-Some.ensures.cases (sym c.in_ok-later_checks.ensures) in
+    record {
+      within = omega (arith, d.1, c.in-Some.ensures.cases.2, l.invariant.within);
+      ahead = ahead_passed _ _ _ l.left c.loop-left-test.true l.invariant.ahead _ _ c.in-Some.ensures.cases (sym c.in_ok-later_checks.ensures);
+    }
 
 pub returns : goal.returns
 unfolding frames_result
 returns c =
     let l = c.loop-left in
-    let b = c.args.bytes.now in
-    let none : l.left ≡ 0 = omega (arith, c.loop-left-test.false) in
-    sym (ahead_done b l.at l.size (rw none at l.invariant.2))
+    let none : l.left ≡ 0 = omega arith in
+    sym (ahead_done _ _ _ (rw none at l.invariant.ahead))

@@ -1,23 +1,31 @@
--- Carried by what the checks answer, in each of its cases.
-use mathlib.Core.Path.{◌≡◌, refl}
-use lib.ListN.{length}
-use Rattle.message_rules.specs.Answer.{passed, verdict_result, write_result, after, within, counted, output_after}
-use Rattle.message_rules.specs.Checks.{write_checks}
-use Rattle.can_rules.specs.Can.{can_carries, can_write}
+-- Carried by what the checks answer, and by the test for a series, which picks the bytes.
+use mathlib.Core.Path.{refl, sym}
+use Rattle.std.proofs.lemmas.Result.{err_from_is_err_and}
+use Rattle.message_rules.specs.Answer.{verdict_result, write_result, after, within, counted, output_after}
 use Rattle.message_rules.proofs.Checks.{payload-most}
+use Rattle.can_rules.specs.Can.{can_carries, can_bytes, can_write}
+use Rattle.can_rules.proofs.Lengths.{single_most}
 use Rattle.can_writer.proofs.writer.write.Goals as goal
 
-pub write_checked-requires : goal.write_checked-requires
-unfolding verdict_result
-write_checked-requires c =
-    let a = c.args in
-    let passes : write_checks can_carries a.message (length a.payload.now) ≡ passed = rw (← c.check_written.ensures, c.in-Passed.is) in
-    payload-most can_carries a.message _ passes
-
-pub returns-in-Refused : goal.returns-in-Refused
+pub returns-in_err-check_written : goal.returns-in_err-check_written
 unfolding can_write verdict_result after within counted output_after write_result
-returns-in-Refused c = rw (← c.check_written.ensures, c.in-Refused.is) record { result_value = refl; out_after = refl }
+returns-in_err-check_written c =
+    let p = err_from_is_err_and c.from_residual.result c.from_residual.ensures.1 in
+    rw (p.1, p.2, ← c.in_err-check_written.ensures) record { result_value = refl; out_after = refl }
 
-pub returns-in-Passed : goal.returns-in-Passed
-unfolding can_write verdict_result after
-returns-in-Passed c = rw (← c.check_written.ensures, c.in-Passed.is) c.write_checked.ensures
+pub write_series-requires : goal.write_series-requires
+unfolding verdict_result
+write_series-requires c = payload-most can_carries c.args.message _ (sym c.in_ok-check_written.ensures)
+
+pub frame-requires : goal.frame-requires
+frame-requires c = single_most _ _ (sym c.if-in_series.ensures)
+
+pub returns-then-in_series : goal.returns-then-in_series
+unfolding can_write can_bytes verdict_result after
+returns-then-in_series c = rw (← c.in_ok-check_written.ensures, ← c.if-in_series.ensures) c.write_series.ensures
+
+pub returns : goal.returns
+unfolding can_write can_bytes verdict_result after
+returns c =
+    let bytes = rw (c.frame.ensures, c.identifier-identifier.ensures, c.type_number.ensures) at c.put.ensures in
+    rw (← c.in_ok-check_written.ensures, ← c.if-in_series.ensures) bytes

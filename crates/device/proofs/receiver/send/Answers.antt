@@ -1,13 +1,10 @@
 -- Carried by what the writer answers, in each of its cases.
-use Rattle.device.proofs.Replies.{answer_gives, refusal_gives}
+use Rattle.std.proofs.Common.{rules, ◌≡◌, Ok, Err, Some}
+use Rattle.std.specs.Result.{MatchResult}
+use Rattle.device.proofs.Replies.{sent_gives}
 use Rattle.device.proofs.receiver.send.Goals as goal
 
-pub returns-in-Length : goal.returns-in-Length
-returns-in-Length c =
-    let e = rw c.in-Length.is at c.write.ensures in
-    answer_gives _ _ _ _ _ e.out_after _ e.result_value
-
-pub returns-in-Refused : goal.returns-in-Refused
-returns-in-Refused c =
-    let e = rw c.in-Refused.is at c.write.ensures in
-    refusal_gives _ _ _ _ _ e.out_after _ e.result_value
+pub returns : goal.returns
+returns c =
+    let cases : MatchResult c.write.result (λ n. c.map.result ≡ Ok (Some n)) (λ e. c.map.result ≡ Err e) = search rules in
+    sent_gives _ _ _ _ _ _ c.write.ensures.result_value c.write.ensures.out_after cases

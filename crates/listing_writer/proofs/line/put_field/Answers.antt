@@ -1,43 +1,25 @@
 -- Carried by the law of one text after another.
-use mathlib.Core.List.{◌++◌}
-use native.Mathlib.Omega.{arith}
 use Rattle.text_rules.specs.Numbers.{decimal}
 use Rattle.listing_rules.specs.Lines.{text, field_text, spaced}
-use Rattle.message_rules.proofs.Stores.{Put, put-more}
+use Rattle.listing_writer.proofs.Parts.{has_first, has_second, puts_more}
 use Rattle.listing_writer.proofs.line.put_field.Goals as goal
 
-pub put_text-to-requires : goal.put_text-to-requires
+pub put-requires : goal.put-requires
 unfolding spaced
-put_text-to-requires c = omega arith
+put-requires c = has_first (text " ") (field_text c.args.field) c.requires
 
 pub put_decimal-requires : goal.put_decimal-requires
 unfolding spaced
-put_decimal-requires c = omega (arith, rw c.in-Number.is at c.requires)
+put_decimal-requires c = has_second (text " ") (decimal c.in-Some.n) (rw c.in-Some.is at c.requires) c.put.ensures
 
-pub put_text-requires : goal.put_text-requires
+pub put-requires-in-None : goal.put-requires-in-None
 unfolding spaced
-put_text-requires c = omega (arith, rw c.in-Dash.is at c.requires)
+put-requires-in-None c = has_second (text " ") (text "-") (rw c.in-None.is at c.requires) c.put.ensures
 
-pub returns-in-Number : goal.returns-in-Number
+pub returns-in-Some : goal.returns-in-Some
 unfolding spaced
-returns-in-Number c =
-    let a = c.args in
-    let put : Put a.out.now a.at (text " " ++ field_text a.field) c.put_decimal.result c.put_decimal.new.out =
-    rw c.in-Number.is
-    (put-more (text " ") (decimal c.in-Number.n) a.out.now _ _ a.at _ _
-    (c.put_text-to.ensures.value, c.put_text-to.ensures.out_after)
-    (c.put_decimal.ensures.value, c.put_decimal.ensures.out_after))
-    in
-    record { value = put.0; out_after = put.1 }
+returns-in-Some c = rw c.in-Some.is (puts_more (text " ") (decimal c.in-Some.n) c.put.ensures c.put_decimal.ensures)
 
-pub returns-in-Dash : goal.returns-in-Dash
+pub returns-in-None : goal.returns-in-None
 unfolding spaced
-returns-in-Dash c =
-    let a = c.args in
-    let put : Put a.out.now a.at (text " " ++ field_text a.field) c.put_text.result c.put_text.new.out =
-    rw c.in-Dash.is
-    (put-more (text " ") (text "-") a.out.now _ _ a.at _ _
-    (c.put_text-to.ensures.value, c.put_text-to.ensures.out_after)
-    (c.put_text.ensures.value, c.put_text.ensures.out_after))
-    in
-    record { value = put.0; out_after = put.1 }
+returns-in-None c = rw c.in-None.is (puts_more (text " ") (text "-") c.put.ensures c.put-in-None.ensures)

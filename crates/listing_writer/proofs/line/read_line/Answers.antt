@@ -11,18 +11,18 @@ unfolding read_result
 message_line-requires c =
     let entry = c.args in
     let whole = counted-whole entry.frame.now _ c.read.result (le_refl 256) c.read.ensures.result_value in
-    counted-most entry.frame.now _ _ (rw c.in-Message.is at whole)
+    counted-most entry.frame.now _ _ (rw c.in-Ok.is at whole)
 
-pub returns-in-Refused : goal.returns-in-Refused
+pub returns-in-Err : goal.returns-in-Err
 unfolding read_result
-returns-in-Refused c =
+returns-in-Err c =
     let entry = c.args in
     let whole = counted-whole entry.frame.now _ c.read.result (le_refl 256) c.read.ensures.result_value in
-    c.refused_line.ensures ∙ ap (line entry.at) (rw c.in-Refused.is at whole)
+    c.refused_line.ensures ∙ ap (line entry.at) (rw c.in-Err.is at whole)
 
-pub returns-in-Message : goal.returns-in-Message
+pub returns-in-Ok : goal.returns-in-Ok
 unfolding read_result
-returns-in-Message c =
+returns-in-Ok c =
     let entry = c.args in
     let whole = counted-whole entry.frame.now _ c.read.result (le_refl 256) c.read.ensures.result_value in
-    c.message_line.ensures ∙ ap (line entry.at) (rw c.in-Message.is at whole)
+    c.message_line.ensures ∙ ap (line entry.at) (rw c.in-Ok.is at whole)

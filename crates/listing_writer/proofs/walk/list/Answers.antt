@@ -12,18 +12,18 @@ use Rattle.listing_writer.proofs.walk.list.Goals as goal
 pub returns-then-bytes-gt-LONGEST_INPUT : goal.returns-then-bytes-gt-LONGEST_INPUT
 returns-then-bytes-gt-LONGEST_INPUT c = rw (listed_past _ c.if-bytes-gt-LONGEST_INPUT.true) c.put.ensures
 
-pub returns-then-out-walk : goal.returns-then-out-walk
+pub returns-then-out-put_listing : goal.returns-then-out-put_listing
 unfolding counted output_after write_result
-returns-then-out-walk c =
+returns-then-out-put_listing c =
     let a = c.args in
-    let short : length a.out.now < length (listing a.bytes.now) = rw c.walk.ensures.value at c.if-out-walk.true in
+    let short : length a.out.now < length (listing a.bytes.now) = rw c.put_listing.ensures.value at c.if-out-put_listing.true in
     rw (too_short a.out.now (tt {0}) _ short) record { result_value = refl; out_after = refl }
 
 pub returns : goal.returns
 unfolding counted output_after write_result
 returns c =
     let a = c.args in
-    let w = c.walk-2.ensures in
-    let fits : length (listing a.bytes.now) ≤ length a.out.now = rw c.walk.ensures.value at c.if-out-walk.false in
+    let w = c.put_listing-2.ensures in
+    let fits : length (listing a.bytes.now) ≤ length a.out.now = rw c.put_listing.ensures.value at c.if-out-put_listing.false in
     rw (long_enough a.out.now (tt {0}) _ fits)
     record { result_value = ap (given (tt {0})) w.value; out_after = rw w.out_after (sets-start (listing a.bytes.now) a.out.now fits) }

@@ -14,14 +14,14 @@ returns-in_default c =
 pub slice_bounds-payload-end : goal.slice_bounds-payload-end
 slice_bounds-payload-end c =
     let e = c.read.ensures in
-    (readable _ _ _ _ e.result_value e.out_after _ _ c.in-Message.is).1
+    (readable _ _ _ _ e.result_value e.out_after _ _ c.in-Ok.is).1
 
 pub slice_bounds-message_meaning-end : goal.slice_bounds-message_meaning-end
 slice_bounds-message_meaning-end c =
     let e = c.read.ensures in
-    sym (length-take-le _ _ (readable _ _ _ _ e.result_value e.out_after _ _ c.in-Message.is).1)
+    sym (length-take-le _ _ (readable _ _ _ _ e.result_value e.out_after _ _ c.in-Ok.is).1)
 
 pub returns : goal.returns
 returns c =
     let e = c.read.ensures in
-    rw (readable _ _ _ _ e.result_value e.out_after _ _ c.in-Message.is).0 c.message_meaning.ensures
+    rw (readable _ _ _ _ e.result_value e.out_after _ _ c.in-Ok.is).0 c.message_meaning.ensures

@@ -1,23 +1,50 @@
--- By the laws of storing: one turn stores the byte of two digits.
-use Rattle.std.proofs.Common.{sym, ◌∙◌, arith, length-set}
-use Rattle.text_rules.proofs.Storing.{pair_digits, read_turn, read-end}
+-- Carried by the laws of storing: one turn stores the byte of two digits.
+use Rattle.std.proofs.Common.{refl, sym, ap, ◌∙◌, arith, length, length-drop, ◌*◌}
+use Rattle.std.specs.Iterator.Adapters.{enumerate_source, enumerate_count}
+use Rattle.std.specs.Slice.Iter.{chunks_exact_size}
+use Rattle.text_rules.specs.Digits.{digit_value}
+use Rattle.text_rules.proofs.Storing.{read_turn, read-end}
+use Rattle.text_hex.proofs.Pairs.{told_some, told_value, pair_inside, pair_first, pair_second, pair_values, pair_more}
 use Rattle.text_hex.proofs.reader.store_bytes.Goals as goal
 
-pub overflow_mul-out : goal.overflow_mul-out
-overflow_mul-out c =
-    let digits = pair_digits c.args.word.now c.loop-i.i c.requires.word_value (omega arith) in
-    omega (arith, digits.0, digits.1)
+pub loop-i-init : goal.loop-i-init
+loop-i-init c =
+    let i = c.into_iter-i-iterator.ensures.into_iter_gives in
+    let source = ap enumerate_source i ∙ c.enumerate-i-items.ensures.source in
+    let zero = ap enumerate_count i ∙ c.enumerate-i-items.ensures.count in
+    record { size = ap chunks_exact_size source ∙ c.chunks_exact.ensures.size; rest = rw (source, zero) c.chunks_exact.ensures.rest; stored = rw zero refl }
 
-pub overflow_add-out : goal.overflow_add-out
-overflow_add-out c =
-    let digits = pair_digits c.args.word.now c.loop-i.i c.requires.word_value (omega arith) in
-    omega (arith, digits.0, digits.1)
+pub unwrap-high-requires : goal.unwrap-high-requires
+unwrap-high-requires c =
+    let l = c.loop-i in
+    let step = c.in-Some.ensures.steps in
+    let values = pair_values c.args.word.now _ _ _ _ c.requires.word_value l.invariant.rest step.0.1.0 (step.0.1.1 ∙ l.invariant.size) in
+    told_some _ _ c.digit_value.ensures values.0
+
+pub unwrap-low-requires : goal.unwrap-low-requires
+unwrap-low-requires c =
+    let l = c.loop-i in
+    let step = c.in-Some.ensures.steps in
+    let values = pair_values c.args.word.now _ _ _ _ c.requires.word_value l.invariant.rest step.0.1.0 (step.0.1.1 ∙ l.invariant.size) in
+    told_some _ _ c.digit_value-in-loop-i.ensures values.1
 
 pub loop-i-preserved : goal.loop-i-preserved
 loop-i-preserved c =
+    let w = c.args.word.now in
     let l = c.loop-i in
-    let turn = read_turn c.args.word.now l.out l.i (omega arith) in
-    (omega arith, simp length-set l.invariant.1, rw (c.digit_value-high.ensures, c.digit_value-low.ensures) (sym turn ∙ l.invariant.2))
+    let step = c.in-Some.ensures.steps in
+    let two = step.0.1.1 ∙ l.invariant.size in
+    let high = told_value _ _ _ c.digit_value.ensures c.unwrap-high.ensures ∙ ap digit_value (pair_first w _ _ _ _ c.requires.word_value l.invariant.rest step.0.1.0 two) in
+    let low = told_value _ _ _ c.digit_value-in-loop-i.ensures c.unwrap-low.ensures ∙ ap digit_value (pair_second w _ _ _ _ c.requires.word_value l.invariant.rest step.0.1.0 two) in
+    let turn = read_turn w l.out (enumerate_count l.i-iterator) (pair_inside w _ _ _ _ c.requires.word_value l.invariant.rest step.0.1.0 two) in
+    record {
+      size = step.0.0 ∙ l.invariant.size;
+      rest = rw step.2 (pair_more w _ _ _ _ c.requires.word_value l.invariant.rest step.0.1.0 two);
+      stored = rw (step.1, step.2, high, low) (sym turn ∙ l.invariant.stored);
+    }
 
 pub returns : goal.returns
-returns c = sym (read-end c.args.word.now c.loop-i.out c.loop-i.i (omega arith)) ∙ c.loop-i.invariant.2
+returns c =
+    let l = c.loop-i in
+    let short = ap length l.invariant.rest in
+    sym (read-end c.args.word.now l.out (enumerate_count l.i-iterator) (omega (arith, short, length-drop (enumerate_count l.i-iterator * 2) c.args.word.now, c.in-None.ensures.steps.0.1.0, l.invariant.size))) ∙ l.invariant.stored

@@ -1,17 +1,20 @@
 -- Carried by the unit's side of the exchange: what it left is heard, or nothing where it is silent, or it is refused.
+use Rattle.std.proofs.Common.{rules, ◌≡◌, None, Ok, Some}
 use Rattle.upload_round.proofs.exchange.sent.Goals as goal
 
-pub returns-in-Answer : goal.returns-in-Answer
-returns-in-Answer c =
+pub returns-in-Ok-Some : goal.returns-in-Ok-Some
+returns-in-Ok-Some c =
+    let answered : c.arrivals-received.result.outcome ≡ Ok (Some c.in-Ok-Some.n) = search rules in
     let arrived = c.arrivals-received.ensures in
-    arrived.heard _ c.in-Answer.is _ _ _ c.heard.ensures
+    arrived.heard _ answered _ _ _ c.heard.ensures
 
-pub returns-in-Silent : goal.returns-in-Silent
-returns-in-Silent c =
+pub returns-in-Ok-None : goal.returns-in-Ok-None
+returns-in-Ok-None c =
+    let silent : c.arrivals-received.result.outcome ≡ Ok None = search rules in
     let arrived = c.arrivals-received.ensures in
-    arrived.silent c.in-Silent.is _ _ _ c.heard-in-Silent.ensures
+    arrived.silent silent _ _ _ c.heard-in-Ok-None.ensures
 
-pub returns-in-Refused : goal.returns-in-Refused
-returns-in-Refused c =
+pub returns-in-Err : goal.returns-in-Err
+returns-in-Err c =
     let arrived = c.arrivals-received.ensures in
-    arrived.refused _ c.in-Refused.is _ _ _ c.stopped.ensures
+    arrived.refused _ c.in-Err.is _ _ _ c.stopped.ensures
