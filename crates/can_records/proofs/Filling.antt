@@ -10,7 +10,7 @@ use lib.Seq.{length-take-le, take_at, drop_at, drop-drop}
 use Rattle.message_rules.specs.Answer.{Answer, refused, given, within, counted, output_after}
 use Rattle.message_rules.specs.declared.Message.{Message}
 use Rattle.message_rules.proofs.Answers.{long_enough, counted-given}
-use Rattle.can_rules.specs.Can.{longest_series, can_write}
+use Rattle.can_rules.specs.Can.{most_later, longest_series, can_write}
 use Rattle.can_rules.specs.declared.CanFrame.{CanFrame}
 use Rattle.can_rules.specs.Records.{record_of, records_of, in_records, records_write, fitting}
 use Rattle.can_rules.proofs.Lengths.{written-most}
@@ -37,6 +37,12 @@ module _ (m : Message) (p : List ℕ) where
     form_given =
         let g = counted-given (within (replicate longest_series 0) (can_write m p)) (replicate longest_series 0) bytes lies tt size (sym says) in
         (sym form_fits ∙ g.0, g.1)
+
+    -- The longest series has so many frames.
+    pub form_most : size / 13 ≤ most_later + 1
+    form_most =
+        let g = form_given in
+        omega (arith, written-most m p (take size bytes) g.0, length-take-le size bytes g.1)
 
     records : records_write m p ≡ given tt (records_of (size / 13) (take size bytes))
     unfolding records_write in_records

@@ -2,9 +2,9 @@
 // rules are `can_rules`'s: `Records`.
 #![tactic(auto)]
 
-ghost use Rattle.std.specs.Prelude.{◌≡◌, length};
+ghost use Rattle.std.specs.Prelude.{◌≡◌, ◌+◌, ◌≤◌, length, IfOk};
 ghost use Rattle.message_rules.specs.Answer.{write_result};
-ghost use Rattle.can_rules.specs.Can.{frame_size};
+ghost use Rattle.can_rules.specs.Can.{frame_size, most_later};
 ghost use Rattle.can_rules.specs.Records.{record_of, records_write, fitting, records_counted, filled};
 
 use can_rules::{CanFrame, DATA_SIZE, FRAME_SIZE, LONGEST_SERIES};
@@ -15,6 +15,7 @@ use message_rules::{Message, Refusal};
 pub fn write(message: Message, payload: &[u8], frames: &mut [CanFrame]) -> Result<usize, Refusal>
     ensures result_value { write_result result ≡ records_counted (fitting (length frames.old) (records_write message payload.now)) }
     ensures frames_after { frames.new ≡ filled (fitting (length frames.old) (records_write message payload.now)) frames.old }
+    ensures at_most { IfOk result (λ count. count ≤ most_later + 1) }
 {
     let mut bytes = [0; LONGEST_SERIES];
     let size = can_writer::write(message, payload, &mut bytes)?;

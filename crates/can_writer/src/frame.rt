@@ -47,8 +47,9 @@ pub(crate) fn counted_frame(identifier: &[u8; 4], part: &[u8], count: u8) -> [u8
     requires { length part.now ≤ part_size }
     ensures { result ≡ can_frame identifier.now (part.now ++ (count ∷ [])) }
 {
+    let used = part.len() + 1;
     let mut counted = frame(identifier, part);
-    counted[4] = part.len() as u8 + 1;
-    counted[5 + part.len()] = count;
+    counted[4] = used as u8;
+    counted[4 + used] = count;
     counted
 }

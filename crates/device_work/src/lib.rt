@@ -1,18 +1,19 @@
 // The work step (document 01, "The unit"): a pending frame goes after what is stored.
 #![tactic(auto)]
 
-ghost use Rattle.std.specs.Prelude.{◌≡◌, ◌+◌, ◌≤◌, length};
+ghost use Rattle.std.specs.Prelude.{◌≡◌, ◌+◌, ◌≤◌, length, MatchResult};
 ghost use Rattle.message_rules.specs.Answer.{value_result};
 ghost use Rattle.device_rules.specs.Device.{buffered_frame};
-ghost use Rattle.device_rules.specs.Work.{unit_stored, has_room, work, without_bytes, store_after};
+ghost use Rattle.device_rules.specs.Work.{unit_stored, has_room, work, without_bytes, after_work, store_after};
 
 use device_rules::{Device, Phase, Transfer};
 use message_rules::Refusal;
 
-// Stores a pending frame, and gives the unit afterwards; with nothing pending it does nothing.
-#[tactic(auto, using(device_rules::proofs::Works::room), unfolding(message_rules::specs::Answer::require, message_rules::specs::Answer::after, message_rules::specs::Answer::value_result, device_rules::specs::Work::work, device_rules::specs::Work::without_bytes, device_rules::specs::Work::store_after))]
+// Stores a pending frame, and gives the unit afterwards; with nothing pending it does nothing. After a refusal the unit is the one that came.
+#[tactic(auto, using(device_rules::proofs::Works::room), unfolding(message_rules::specs::Answer::require, message_rules::specs::Answer::after, message_rules::specs::Answer::value_result, device_rules::specs::Work::work, device_rules::specs::Work::without_bytes, device_rules::specs::Work::after_work, device_rules::specs::Work::store_after))]
 pub fn work(device: Device, store: &mut [u8]) -> Result<Device, Refusal>
     ensures device_value { value_result result ≡ without_bytes (work device (length store.old)) }
+    ensures unit_after { MatchResult result (λ next. next ≡ after_work device (work device (length store.old))) (λ refusal. device ≡ after_work device (work device (length store.old))) }
     ensures store_after { store.new ≡ store_after device (work device (length store.old)) store.old }
 {
     let transfer = device.transfer;

@@ -1,17 +1,18 @@
 -- Carried by what is left to count: a count so far and that of the entries left are the count of all entries.
-use Prim.Native.Nat.{ℕ, suc, ◌+◌, ◌≤◌, ◌<◌}
+use Prim.Native.Nat.{ℕ, suc, ◌+◌, ◌*◌, ◌≤◌, ◌<◌}
 use mathlib.Core.Bool.{Bool, true, false}
 use mathlib.Core.List.{List, [], ◌∷◌, ◌++◌}
 use mathlib.Core.Path.{◌≡◌, refl, sym, ◌∙◌}
 use native.Mathlib.Omega.{arith}
-use borrow.Author.Tests.{le-ltb, eqb-true, eqb-false}
-use lib.Dec.{eqb}
+use borrow.Author.Tests.{lt-ltb, le-ltb, ltb-true, ltb-false, eqb-true, eqb-false, leb-true}
+use lib.Dec.{ltb, eqb}
 use lib.ListN.{length, get_or, set, replicate, length-set, length-replicate, get_or-replicate}
 use lib.Seq.{get_or-set_same, get_or-set_other, ext_get_or}
-use Rattle.event_rules.specs.Records.{record_of, record_in, no_record, in_second, event_class, event_source}
+use Rattle.event_rules.specs.Records.{record_of, record_in, in_second, event_class, event_source}
 use Rattle.event_rules.specs.Logs.{Entry, entries, kept, every}
 use Rattle.event_rules.specs.Reports.{of_class, of_source, counts, class_counts, source_counts, is_earlier, tally, earlier_count, report_of}
 use Rattle.event_rules.specs.declared.EventRecord.{EventRecord}
+use Rattle.message_rules.proofs.Checks.{both_true}
 use Rattle.event_rules.proofs.Entries.{entries-count, kept-part, part_length}
 use Rattle.event_rules.proofs.Turns.{record_whole}
 use Rattle.event_rules.proofs.Choices.{class_below, source_below}
@@ -61,30 +62,52 @@ module _ (test : ℕ → EventRecord → Bool) (width : ℕ) where
           let front = rw (is i (record_of e), q) at (kept-front (test i) e rest) in
           rw (get_or-set_other row _ i (get_or row (value (record_of e)) 0 + 1) 0 (λ p. eqb-false _ _ q (sym p))) (omega (arith, r.counted i h, front))
 
--- How many are earlier than the record before, the first of them than this one.
-unfoldable pub earlier_from : EventRecord → List Entry → ℕ
-earlier_from before [] = 0
-earlier_from before (e ∷ l) = tally (is_earlier (record_of e) before) (earlier_from (record_of e) l)
+-- Seconds, then milliseconds, as one number.
+abbrev pub time : EventRecord → ℕ
+time e = e.seconds * 65536 + e.milliseconds
 
-earlier-after : (d : Entry) (l : List Entry) → earlier_from (record_of d) l ≡ earlier_count (d ∷ l)
-unfolding earlier_from earlier_count
-earlier-after d [] = refl
-earlier-after d (e ∷ l) = rw (earlier-after e l)
-
--- Nothing is earlier than no record, which has zeros.
-earlier-first : (l : List Entry) → earlier_from no_record l ≡ earlier_count l
-unfolding earlier_from earlier_count is_earlier no_record tally
-earlier-first [] = refl
-earlier-first (e ∷ l) = by (eqb (record_of e).seconds 0) refl
+-- Earlier is smaller, where no milliseconds come to the next second.
+same-ltb : (a b c d : ℕ) → (a < b → c < d) → (b ≤ a → d ≤ c) → ltb a b ≡ ltb c d
+same-ltb a b c d less most = by (ltb a b) refl
   where
-    by : (t : Bool) → eqb (record_of e).seconds 0 ≡ t → earlier_from no_record (e ∷ l) ≡ earlier_count (e ∷ l)
-    by true q = rw (q, le-ltb (record_of e).milliseconds 0 (omega arith)) (earlier-after e l)
-    by false q = rw (q, le-ltb (record_of e).seconds 0 (omega arith)) (earlier-after e l)
+    by : (t : Bool) → ltb a b ≡ t → ltb a b ≡ ltb c d
+    by true q = q ∙ sym (lt-ltb c d (less (ltb-true a b q)))
+    by false q = q ∙ sym (le-ltb c d (most (ltb-false a b q)))
 
-earlier-most : (before : EventRecord) (l : List Entry) → earlier_from before l ≤ length l
+earlier_time : (e d : EventRecord) → in_second e ≡ true → in_second d ≡ true → is_earlier e d ≡ ltb (time e) (time d)
+unfolding in_second is_earlier
+earlier_time e d legal legal' = by (eqb e.seconds d.seconds) refl
+  where
+    by : (t : Bool) → eqb e.seconds d.seconds ≡ t → is_earlier e d ≡ ltb (time e) (time d)
+    by true q = let same = eqb-true e.seconds d.seconds q in rw q (same-ltb e.milliseconds d.milliseconds (time e) (time d) (λ h. omega arith) (λ h. omega arith))
+    by false q =
+        let small = leb-true e.milliseconds 999 legal in
+        let small' = leb-true d.milliseconds 999 legal' in
+        let other = eqb-false e.seconds d.seconds q in
+        rw q (same-ltb e.seconds d.seconds (time e) (time d) (λ h. omega arith) (λ h. omega arith))
+
+-- How many are earlier than the record before, the first of them than a time.
+unfoldable pub earlier_from : ℕ → List Entry → ℕ
+earlier_from before [] = 0
+earlier_from before (e ∷ l) = tally (ltb (time (record_of e)) before) (earlier_from (time (record_of e)) l)
+
+earlier-after : (d : Entry) (l : List Entry) → every in_second (d ∷ l) ≡ true → earlier_from (time (record_of d)) l ≡ earlier_count (d ∷ l)
+unfolding earlier_from earlier_count every
+earlier-after d [] h = refl
+earlier-after d (e ∷ l) h =
+    let both = both_true _ _ h in
+    rw (earlier_time (record_of e) (record_of d) (both_true _ _ both.1).0 both.0, earlier-after e l both.1)
+
+-- Nothing is earlier than 0.
+earlier-first : (l : List Entry) → every in_second l ≡ true → earlier_from 0 l ≡ earlier_count l
+unfolding earlier_from earlier_count tally
+earlier-first [] h = refl
+earlier-first (e ∷ l) h = rw (le-ltb (time (record_of e)) 0 (omega arith)) (earlier-after e l h)
+
+earlier-most : (before : ℕ) (l : List Entry) → earlier_from before l ≤ length l
 unfolding earlier_from tally
 earlier-most before [] = omega arith
-earlier-most before (e ∷ l) = by (is_earlier (record_of e) before) (earlier-most (record_of e) l)
+earlier-most before (e ∷ l) = by (ltb (time (record_of e)) before) (earlier-most (time (record_of e)) l)
   where
     by : (t : Bool) {m n : ℕ} → m ≤ n → tally t m ≤ suc n
     by true h = omega arith
@@ -101,13 +124,13 @@ added true m n = omega arith
 added false m n = omega arith
 
 -- What has been counted, with so much left of a log.
-pub record Counting (log classes sources : List ℕ) (earlier : ℕ) (before : EventRecord) (left : List ℕ) : Type 0 where
+pub record Counting (log classes sources : List ℕ) (earlier before : ℕ) (left : List ℕ) : Type 0 where
   pub legal : every in_second (entries left) ≡ every in_second (entries log)
   pub class_row : Row of_class 4 classes (entries left) (entries log)
   pub source_row : Row of_source 32 sources (entries left) (entries log)
-  pub earlier-sum : earlier + earlier_from before (entries left) ≡ earlier_from no_record (entries log)
+  pub earlier-sum : earlier + earlier_from before (entries left) ≡ earlier_from 0 (entries log)
 
-pub first : (log : List ℕ) → Counting log (replicate 4 0) (replicate 32 0) 0 no_record log
+pub first : (log : List ℕ) → Counting log (replicate 4 0) (replicate 32 0) 0 0 log
 first log =
     record {
       legal = refl;
@@ -116,7 +139,7 @@ first log =
       earlier-sum = omega arith;
     }
 
-module _ {log classes sources : List ℕ} {earlier : ℕ} {before : EventRecord} {left : List ℕ} (c : Counting log classes sources earlier before left) where
+module _ {log classes sources : List ℕ} {earlier before : ℕ} {left : List ℕ} (c : Counting log classes sources earlier before left) where
   -- No count is above that of the entries.
   module _ (short : length log ≤ 65520) where
     few : length (entries log) ≤ 2730
@@ -129,7 +152,7 @@ module _ {log classes sources : List ℕ} {earlier : ℕ} {before : EventRecord}
     source-most i h = omega (arith, few, row-most of_source 32 c.source_row i h)
 
     pub earlier_few : earlier ≤ 2730
-    earlier_few = omega (arith, few, c.earlier-sum, earlier-most no_record (entries log))
+    earlier_few = omega (arith, few, c.earlier-sum, earlier-most 0 (entries log))
 
   -- No entry is left.
   module _ (none : length left < 24) where
@@ -147,7 +170,7 @@ module _ {log classes sources : List ℕ} {earlier : ℕ} {before : EventRecord}
         }
       where
         all_earlier : earlier ≡ earlier_count (entries log)
-        all_earlier = omega (arith, rw (entries-end left none) at c.earlier-sum, earlier-first (entries log))
+        all_earlier = omega (arith, rw (entries-end left none) at c.earlier-sum, earlier-first (entries log) all_legal)
 
   -- An entry is left, with its record: it is refused, or counted.
   module _ (entry rest : List ℕ) (begins : left ≡ entry ++ rest) (whole : length entry ≡ 24) (e : EventRecord) (is : e ≡ record_in entry) where
@@ -162,12 +185,12 @@ module _ {log classes sources : List ℕ} {earlier : ℕ} {before : EventRecord}
     late h = sym c.legal ∙ rw (front, ← read, h)
 
     pub next : in_second e ≡ true
-        → Counting log (one_more classes (event_class e)) (one_more sources (event_source e)) (earlier + bool_byte (is_earlier e before)) e rest
+        → Counting log (one_more classes (event_class e)) (one_more sources (event_source e)) (earlier + bool_byte (ltb (time e) before)) (time e) rest
     unfolding of_class of_source earlier_from every
     next h =
         record {
           legal = rw (front, ← read, h) at c.legal;
           class_row = rw read (row_turn of_class 4 event_class (λ i r. refl) (rw front at c.class_row) (class_below (record_of entry)));
           source_row = rw read (row_turn of_source 32 event_source (λ i r. refl) (rw front at c.source_row) (source_below (record_of entry)));
-          earlier-sum = rw read (added (is_earlier (record_of entry) before) _ _ ∙ rw front at c.earlier-sum);
+          earlier-sum = rw read (added (ltb (time (record_of entry)) before) _ _ ∙ rw front at c.earlier-sum);
         }

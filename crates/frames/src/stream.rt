@@ -18,8 +18,13 @@ const TEXT: usize = 655380;
 pub(crate) fn print_listing(rt: &impl Print, input: &mut impl Read) -> io::Result<()> {
     let mut bytes = input_space();
     let n = console::read_full(input, &mut bytes);
+    print_listed(rt, &bytes[..n])
+}
+
+// Apart from the reading, so that the space for the text is cleared once: beside the input it was cleared on entry too (measured: a short file).
+fn print_listed(rt: &impl Print, bytes: &[u8]) -> io::Result<()> {
     let mut text = text_space();
-    let length = listed(&bytes[..n], &mut text);
+    let length = listed(bytes, &mut text);
     rt.write_all(&text[..length])
 }
 

@@ -77,7 +77,7 @@ pub(crate) fn put_line(text: &mut Text, line: Line)
     put_field(text, line.id);
     put_field(text, line.len);
     put_field(text, line.code);
-    text.put(b"\n");
+    text.put_byte(b'\n');
 }
 
 // The name after the offset.
@@ -85,7 +85,7 @@ fn put_name(text: &mut Text, name: Option<Kind>)
     requires { HasRoom (spaced (name_text name)) text.old }
     ensures { Puts (spaced (name_text name)) text.old text.new }
 {
-    text.put(b" ");
+    text.put_byte(b' ');
     text.put(name_word(name));
 }
 
@@ -94,10 +94,10 @@ fn put_field(text: &mut Text, field: Option<usize>)
     requires { HasRoom (spaced (field_text field)) text.old }
     ensures { Puts (spaced (field_text field)) text.old text.new }
 {
-    text.put(b" ");
+    text.put_byte(b' ');
     match field {
         Some(n) => text.put_decimal(n),
-        None => text.put(b"-"),
+        None => text.put_byte(b'-'),
     }
 }
 

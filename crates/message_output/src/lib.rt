@@ -15,6 +15,9 @@ pub fn put(bytes: &[u8], out: &mut [u8]) -> Result<usize, Refusal>
     if out.len() < bytes.len() {
         return Err(Refusal::OutputTooShort);
     }
-    out[..bytes.len()].copy_from_slice(bytes);
+    // Measured, of an acknowledgement on CSP, which has no payload: `copy_from_slice` takes a fifth more time.
+    for (i, b) in bytes.iter().enumerate() {
+        out[i] = *b;
+    }
     Ok(bytes.len())
 }

@@ -8,6 +8,7 @@ mod lines;
 mod names;
 mod plain;
 mod print;
+mod records;
 mod round;
 mod run;
 mod sending;

@@ -1,6 +1,6 @@
 // The calls that keep nothing.
-use crate::print;
 use crate::print::Hex;
+use crate::{print, records};
 use can_rules::CanFrame;
 use link_rules::Link;
 use message_rules::{Message, Refusal};
@@ -37,9 +37,9 @@ pub(crate) fn records(
     payload: &[u8],
 ) -> io::Result<()> {
     let mut frames = [untouched(); 64];
-    let lent = &mut frames[..count.min(64)];
-    print::count(rt, can_records::write(message, payload, lent))?;
-    for frame in lent {
+    let written = records::write(message, payload, &mut frames, count);
+    print::count(rt, written)?;
+    for frame in frames.iter().take(count) {
         print_record(rt, frame)?;
     }
     print::end_line(rt)

@@ -1,6 +1,5 @@
 // A round between the sender and the unit that a script keeps.
 use crate::print;
-use crate::print::Hex;
 use crate::state::State;
 use device::Device;
 use round_rules::{Fate, Round};
@@ -46,7 +45,7 @@ fn print_exchange(
     let mut space = [0u8; 1024];
     let length = sender::request(sender, file, &mut space).map_or(0, |sent| sent.unwrap_or(0));
     let request = space.get(..length).unwrap_or(&[]);
-    print!(rt; "{}", Hex(request))?;
+    print::bytes(rt, request)?;
     let arrivals = arrivals(round.fate, request);
     let once = print_answer(rt, arrivals >= 1, request, device, store)?;
     print_answer(rt, arrivals >= 2, request, once, store)?;

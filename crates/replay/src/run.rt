@@ -10,8 +10,8 @@ pub(crate) fn run(rt: &impl Print, script: &mut impl Read) -> io::Result<()> {
     let mut kept = state::empty();
     let mut lines = lines::start();
     // The count only bounds the loop, beyond any script.
-    for i in 0..u64::MAX {
-        lines.advance(script, i == 0);
+    for _ in 0..u64::MAX {
+        lines.advance(script);
         run_line(rt, lines.line(), &mut kept)?;
         if lines.is_last() {
             break;

@@ -86,7 +86,7 @@ pub(crate) fn work(rt: &impl Print, lent: Option<usize>, kept: &mut State) -> io
 // store
 pub(crate) fn store(rt: &impl Print, kept: &State) -> io::Result<()> {
     match &kept.unit {
-        Some(unit) => println!(rt; "{}", print::Hex(unit.store.as_slice())),
+        Some(unit) => print::bytes_line(rt, unit.store.as_slice()),
         None => print::none_line(rt),
     }
 }

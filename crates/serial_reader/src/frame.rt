@@ -2,6 +2,7 @@
 ghost use Rattle.std.specs.Prelude.{◌≤◌, ◌≡◌, length, get_or};
 ghost use Rattle.serial_rules.specs.Stuffing.{frame_scan};
 ghost use Rattle.serial_rules.specs.Frames.{front_length, id_field, address_field};
+ghost use Rattle.serial_rules.specs.declared.Stop.TheVariants.{Ended};
 
 use serial_fields::{address_length, id_length};
 use serial_rules::{SerialLink, StartRow};
@@ -13,6 +14,7 @@ pub(crate) struct Frame<'a> {
     pub row: StartRow,
     pub bytes: &'a [u8],
     pub count: usize,
+    ghost ended: { (frame_scan bytes.now).stop ≡ Ended },
     ghost size: { count ≡ length (frame_scan bytes.now).body },
 }
 

@@ -3,7 +3,7 @@
 ghost use Rattle.std.specs.Prelude.{◌+◌, ◌≤◌, ◌≡◌, length, drop};
 ghost use Rattle.message_rules.specs.Answer.{read_result, within, counted, output_after, given};
 ghost use Rattle.serial_rules.specs.Stuffing.{frame_scan};
-ghost use Rattle.serial_rules.specs.Frames.{front_length, kind_read, frame_body, row_read, frame_read};
+ghost use Rattle.serial_rules.specs.Frames.{front_length, id_field, kind_read, frame_body, row_read, frame_read};
 
 use crate::frame::Frame;
 use crate::kind::kind_of;
@@ -67,21 +67,23 @@ fn read_frame(frame: &Frame, out: &mut [u8]) -> Result<(Message, usize), Refusal
     if frame.count < frame.front_length() {
         return Err(Refusal::WrongLength);
     }
-    let kind = kind_of(frame.row, frame.id()).ok_or(Refusal::IdOutOfRange)?;
-    read_data(frame, kind, out)
+    let id = frame.id();
+    let kind = kind_of(frame.row, id).ok_or(Refusal::IdOutOfRange)?;
+    read_data(frame, kind, id, out)
 }
 
 // Reads a frame whose ID decided for a kind.
 #[tactic(auto, unfolding(serial_rules::specs::Frames::kind_read, serial_rules::specs::Frames::source_checked, message_rules::specs::Data::data_read, message_rules::specs::Data::data_message, message_rules::specs::Answer::verdict_result, message_rules::specs::Answer::require, message_rules::specs::Answer::after, message_rules::specs::Answer::within, message_rules::specs::Answer::counted, message_rules::specs::Answer::output_after, message_rules::specs::Answer::read_result))]
-fn read_data(frame: &Frame, kind: Kind, out: &mut [u8]) -> Result<(Message, usize), Refusal>
-    requires { front_length frame.now.link frame.now.row ≤ frame.now.count }
+fn read_data(frame: &Frame, kind: Kind, id: u8, out: &mut [u8]) -> Result<(Message, usize), Refusal>
+    requires id_value { id ≡ id_field frame.now.row (frame_scan frame.now.bytes.now).body }
+    requires front_bound { front_length frame.now.link frame.now.row ≤ frame.now.count }
     ensures result_value { read_result result ≡ counted (within out.old (kind_read frame.now.link frame.now.row kind (frame_scan frame.now.bytes.now).body)) }
     ensures out_after { out.new ≡ output_after (within out.old (kind_read frame.now.link frame.now.row kind (frame_scan frame.now.bytes.now).body)) out.old }
 {
     let front = frame.front_length();
     let raw = Message {
         kind,
-        id: frame.id(),
+        id,
         source: frame.address(0),
         destination: frame.address(1),
         error: Some(frame.byte(front)),

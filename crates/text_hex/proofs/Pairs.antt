@@ -8,7 +8,6 @@ use native.Mathlib.Nat.{add-zero}
 use native.Mathlib.Omega.{arith}
 use lib.ListN.{length, get_or, drop, length-append, length-drop, get_or-append}
 use lib.Seq.{get_or-drop, drop_at, drop-drop}
-use Rattle.std.specs.Prelude.{None, Some, Option, MatchOption, IsSome}
 use Rattle.std.specs.List.{list_all}
 use Rattle.text_rules.specs.Digits.{digit_value, is_digit, all_digits}
 use Rattle.text_rules.proofs.Storing.{pair_digits}
@@ -17,17 +16,6 @@ pub digits_all : (s : List ℕ) → list_all (is_digit 16) s ≡ all_digits 16 s
 unfolding all_digits
 digits_all [] = refl
 digits_all (b ∷ s) = ap (λ (t : Bool). is_digit 16 b && t) (digits_all s)
-
--- What is known of a digit's value.
-abbrev pub Told : Option ℕ → ℕ → Type 0
-Told r b = MatchOption r (digit_value b ≡ 16) (λ d. (d ≡ digit_value b) × (d < 16))
-
-pub told_some : (r : Option ℕ) (b : ℕ) → Told r b → digit_value b < 16 → IsSome r
-told_some None b h small = absurd (omega arith)
-told_some (Some d) b h small = refl
-
-pub told_value : (r : Option ℕ) (b d : ℕ) → Told r b → r ≡ Some d → d ≡ digit_value b
-told_value r b d h e = let t : Told (Some d) b = rw e at h in t.0
 
 -- The pair i of a word, in front of those that are left: its bytes, both digits, and the pairs after it.
 module _ (word left pair others : List ℕ) (i : ℕ) (digits : all_digits 16 word ≡ true) (rest : left ≡ drop (i * 2) word) (parts : left ≡ pair ++ others) (two : length pair ≡ 2) where

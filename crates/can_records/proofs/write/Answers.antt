@@ -11,7 +11,7 @@ use Rattle.message_rules.specs.Answer.{write_result}
 use Rattle.message_rules.proofs.Answers.{counted-refused}
 use Rattle.can_rules.specs.Records.{records_of, records_counted, fitting, filled}
 use Rattle.can_rules.proofs.Records.{records-length}
-use Rattle.can_records.proofs.Filling.{form_fits, form_refused, form_given, few_records, enough_records, going_inside, going_more, going_end}
+use Rattle.can_records.proofs.Filling.{form_fits, form_refused, form_given, form_most, few_records, enough_records, going_inside, going_more, going_end}
 use Rattle.can_records.proofs.write.Goals as goal
 
 pub returns-in_err-size : goal.returns-in_err-size
@@ -20,14 +20,14 @@ returns-in_err-size c =
     let a = c.args in
     let p = err_from_is_err_and c.from_residual.result c.from_residual.ensures.1 in
     let form = sym (form_fits a.message a.payload.now) ∙ counted-refused _ _ (sym c.in_err-size.ensures.result_value) in
-    rw (p.1, p.2, form_refused a.message a.payload.now _ form) record { result_value = refl; frames_after = refl }
+    rw (p.1, p.2, form_refused a.message a.payload.now _ form) record { result_value = refl; frames_after = refl; at_most = tt }
 
 pub returns-then-frames-count : goal.returns-then-frames-count
 unfolding write_result records_counted filled
 returns-then-frames-count c =
     let a = c.args in
     let e = c.in_ok-size.ensures in
-    rw (few_records a.message a.payload.now _ _ e.result_value e.out_after _ c.if-frames-count.true) record { result_value = refl; frames_after = refl }
+    rw (few_records a.message a.payload.now _ _ e.result_value e.out_after _ c.if-frames-count.true) record { result_value = refl; frames_after = refl; at_most = tt }
 
 pub slice_bounds-bytes-end : goal.slice_bounds-bytes-end
 unfolding write_result
@@ -74,4 +74,4 @@ returns c =
     let bytes = form_given a.message a.payload.now _ _ e.result_value e.out_after in
     let first = ap chunks_exact_rest (ap enumerate_source c.into_iter-i-iterator.ensures.into_iter_gives ∙ c.enumerate-i-items.ensures.source) ∙ c.chunks_exact.ensures.rest in
     let done = going_end _ _ _ _ _ _ _ l.invariant.going (omega (arith, c.in-None.ensures.steps.0.1.0, l.invariant.size)) first (length-take-le _ _ bytes.1) in
-    rw (enough_records a.message a.payload.now _ _ e.result_value e.out_after _ c.if-frames-count.false, records-length) record { result_value = refl; frames_after = done }
+    rw (enough_records a.message a.payload.now _ _ e.result_value e.out_after _ c.if-frames-count.false, records-length) record { result_value = refl; frames_after = done; at_most = form_most a.message a.payload.now _ _ e.result_value e.out_after }

@@ -1,4 +1,4 @@
--- Carried by the laws of one frame: what is stored, and the frames left, are the series.
+-- Carried by the laws of one frame: what is stored, and the frames from there on, are the series.
 use Rattle.can_writer.proofs.Writing.{Going}
 use Rattle.can_writer.proofs.writer.fill_series.Given as goal
 

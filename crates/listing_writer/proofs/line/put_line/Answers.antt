@@ -17,4 +17,4 @@ returns c =
     let to_id = puts_more (decimal l.at ++ name) id to_name c.put_field.ensures in
     let to_len = puts_more (decimal l.at ++ name ++ id) len to_id c.put_field-2.ensures in
     let to_code = puts_more (decimal l.at ++ name ++ id ++ len) code to_len c.put_field-3.ensures in
-    puts_more (decimal l.at ++ name ++ id ++ len ++ code) (text "\n") to_code c.put.ensures
+    puts_more (decimal l.at ++ name ++ id ++ len ++ code) (text "\n") to_code c.put_byte.ensures

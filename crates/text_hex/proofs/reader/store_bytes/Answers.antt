@@ -4,7 +4,7 @@ use Rattle.std.specs.Iterator.Adapters.{enumerate_source, enumerate_count}
 use Rattle.std.specs.Slice.Iter.{chunks_exact_size}
 use Rattle.text_rules.specs.Digits.{digit_value}
 use Rattle.text_rules.proofs.Storing.{read_turn, read-end}
-use Rattle.text_hex.proofs.Pairs.{told_some, told_value, pair_inside, pair_first, pair_second, pair_values, pair_more}
+use Rattle.text_hex.proofs.Pairs.{pair_inside, pair_first, pair_second, pair_values, pair_more}
 use Rattle.text_hex.proofs.reader.store_bytes.Goals as goal
 
 pub loop-i-init : goal.loop-i-init
@@ -14,19 +14,19 @@ loop-i-init c =
     let zero = ap enumerate_count i ∙ c.enumerate-i-items.ensures.count in
     record { size = ap chunks_exact_size source ∙ c.chunks_exact.ensures.size; rest = rw (source, zero) c.chunks_exact.ensures.rest; stored = rw zero refl }
 
-pub unwrap-high-requires : goal.unwrap-high-requires
-unwrap-high-requires c =
+pub overflow_mul-out : goal.overflow_mul-out
+overflow_mul-out c =
     let l = c.loop-i in
     let step = c.in-Some.ensures.steps in
     let values = pair_values c.args.word.now _ _ _ _ c.requires.word_value l.invariant.rest step.0.1.0 (step.0.1.1 ∙ l.invariant.size) in
-    told_some _ _ c.digit_value.ensures values.0
+    omega (arith, values.0, c.value_of-high.ensures)
 
-pub unwrap-low-requires : goal.unwrap-low-requires
-unwrap-low-requires c =
+pub overflow_add-out : goal.overflow_add-out
+overflow_add-out c =
     let l = c.loop-i in
     let step = c.in-Some.ensures.steps in
     let values = pair_values c.args.word.now _ _ _ _ c.requires.word_value l.invariant.rest step.0.1.0 (step.0.1.1 ∙ l.invariant.size) in
-    told_some _ _ c.digit_value-in-loop-i.ensures values.1
+    omega (arith, values.0, values.1, c.value_of-high.ensures, c.value_of-low.ensures)
 
 pub loop-i-preserved : goal.loop-i-preserved
 loop-i-preserved c =
@@ -34,8 +34,8 @@ loop-i-preserved c =
     let l = c.loop-i in
     let step = c.in-Some.ensures.steps in
     let two = step.0.1.1 ∙ l.invariant.size in
-    let high = told_value _ _ _ c.digit_value.ensures c.unwrap-high.ensures ∙ ap digit_value (pair_first w _ _ _ _ c.requires.word_value l.invariant.rest step.0.1.0 two) in
-    let low = told_value _ _ _ c.digit_value-in-loop-i.ensures c.unwrap-low.ensures ∙ ap digit_value (pair_second w _ _ _ _ c.requires.word_value l.invariant.rest step.0.1.0 two) in
+    let high = c.value_of-high.ensures ∙ ap digit_value (pair_first w _ _ _ _ c.requires.word_value l.invariant.rest step.0.1.0 two) in
+    let low = c.value_of-low.ensures ∙ ap digit_value (pair_second w _ _ _ _ c.requires.word_value l.invariant.rest step.0.1.0 two) in
     let turn = read_turn w l.out (enumerate_count l.i-iterator) (pair_inside w _ _ _ _ c.requires.word_value l.invariant.rest step.0.1.0 two) in
     record {
       size = step.0.0 ∙ l.invariant.size;

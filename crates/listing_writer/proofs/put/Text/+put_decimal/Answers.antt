@@ -7,8 +7,8 @@ use Rattle.listing_writer.proofs.put.Text.+put_decimal.Goals.{then-n-ge10, else-
 pub put_decimal-requires : goal.put_decimal-requires
 put_decimal-requires t c = (omega arith, has_first _ _ (rw (more_digits _ c.if-n-ge10.true) at c.requires))
 
-pub put-requires : goal.put-requires
-put-requires t c =
+pub put_byte-requires : goal.put_byte-requires
+put_byte-requires t c =
     elim c.if-n-ge10.branch [
       | then-n-ge10 w ↦ rw w.self-is (has_second _ _ (rw (more_digits _ w.if-n-ge10.true) at c.requires) w.put_decimal.ensures)
       | else-n-ge10 w ↦ rw w.self-is (rw (last_digit _ w.if-n-ge10.false) at c.requires)
@@ -17,6 +17,6 @@ put-requires t c =
 pub returns : goal.returns
 returns t c =
     elim c.if-n-ge10.branch [
-      | then-n-ge10 w ↦ rw (more_digits _ w.if-n-ge10.true) (puts_more _ _ w.put_decimal.ensures (rw w.self-is at c.put.ensures))
-      | else-n-ge10 w ↦ rw (last_digit _ w.if-n-ge10.false, ← w.self-is) c.put.ensures
+      | then-n-ge10 w ↦ rw (more_digits _ w.if-n-ge10.true) (puts_more _ _ w.put_decimal.ensures (rw w.self-is at c.put_byte.ensures))
+      | else-n-ge10 w ↦ rw (last_digit _ w.if-n-ge10.false, ← w.self-is) c.put_byte.ensures
     ]

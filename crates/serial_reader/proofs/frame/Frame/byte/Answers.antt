@@ -6,9 +6,9 @@ use Rattle.serial_reader.proofs.frame.Frame.byte.Goals as goal
 pub bounds-self-skip : goal.bounds-self-skip
 bounds-self-skip c =
     let a = c.args in
-    skip-inside a.self.now.bytes.now a.i c.skip.result c.skip.ensures (omega arith)
+    skip-inside a.self.now.bytes.now 2 a.i c.skip.result c.skip.ensures (omega arith)
 
 pub returns : goal.returns
 returns c =
     let a = c.args in
-    skip-byte a.self.now.bytes.now a.i c.skip.result c.skip.ensures (omega arith)
+    skip-byte a.self.now.bytes.now 2 a.i c.skip.result c.skip.ensures (omega arith)

@@ -1,43 +1,44 @@
--- Carried by the steps of a scan: before a turn `at` stands after the bytes that were stored, and these are the body's.
-use Prim.Native.Nat.{ℕ, ◌+◌, ◌<◌}
-use mathlib.Core.List.{List}
-use mathlib.Core.Path.{◌≡◌, ◌∙◌, sym}
+-- Carried by the steps of a scan: before a turn the rest of the body, stored from `to` on, makes the output whole.
+use Prim.Native.Nat.{ℕ, ◌-◌, ◌≤◌}
+use mathlib.Core.List.{List, ◌++◌}
+use mathlib.Core.Path.{◌≡◌, refl, sym, ◌∙◌}
 use native.Mathlib.Omega.{arith}
-use lib.ListN.{length, get_or, drop, length-drop}
-use lib.Seq.{get_or-drop, length-take-le}
-use Rattle.message_rules.proofs.Answers.{copy_step}
+use borrow.Author.Rules.{rules}
+use lib.ListN.{length, drop, length-drop, length-set}
+use Rattle.message_rules.proofs.Stores.{sets-start}
 use Rattle.serial_rules.specs.Stuffing.{frame_scan}
-use Rattle.serial_reader.proofs.Undoubling.{skip-inside, skip-byte, skip-plain, skip-doubled}
+use Rattle.serial_reader.specs.Undouble.{Skipped, AtEscape, body_stored}
+use Rattle.serial_reader.proofs.Undoubling.{store-doubled, store_tail}
 use Rattle.serial_reader.proofs.frame.Frame.undouble.Goals as goal
-use Rattle.serial_reader.proofs.frame.Frame.undouble.Goals.{then-byte-esc, else-byte-esc}
 
-pub bounds-self-at : goal.bounds-self-at
-bounds-self-at c =
-    let a = c.args in
-    let l = c.loop-byte in
-    skip-inside a.self.now.bytes.now (a.n + l.byte-index) l.at l.invariant.place (omega (arith, length-take-le _ a.out.now c.requires.room))
+-- What the output is once all is stored, from the place after n bytes of the body.
+whole : (b out : List ℕ) (at n count : ℕ) → Skipped b 2 n at → count ≡ length (frame_scan b).body → count - n ≤ length out
+    → body_stored b at out 0 ≡ drop n (frame_scan b).body ++ drop (count - n) out
+whole b out at n count h size room =
+    let body : List ℕ = (frame_scan b).body in
+    rw (h.body, size) (rw length-drop at (sets-start (drop n body) out (rw length-drop (omega arith))))
 
-pub overflow_add-at : goal.overflow_add-at
-overflow_add-at c =
-    let a = c.args in
-    let l = c.loop-byte in
-    let inside = skip-inside a.self.now.bytes.now (a.n + l.byte-index) l.at l.invariant.place (omega (arith, length-take-le _ a.out.now c.requires.room)) in
-    elim c.if-byte-esc.branch [ then-byte-esc w ↦ omega (arith, w.at-is, inside) | else-byte-esc w ↦ omega (arith, w.at-is, inside) ]
+-- The ESC that the plain bytes of a turn end at.
+at-escape : {b part all out : List ℕ} {at to : ℕ} → AtEscape b part out at to → part ≡ all → AtEscape b all out at to
+at-escape e h = record { escape = e.escape; next = e.next; left = record { fits = e.left.fits; same = e.left.same ∙ h } }
 
-pub loop-byte-preserved : goal.loop-byte-preserved
-loop-byte-preserved c =
+pub loop-at-init : goal.loop-at-init
+loop-at-init c =
+    let s = c.skip-at.ensures in
+    let f = c.args.self.now in
+    (refl, record { fits = record { ended = s.stop ∙ f.ended; room = rw (s.body, length-drop) (omega arith) }; same = refl })
+
+pub returns-then-bytes-at : goal.returns-then-bytes-at
+returns-then-bytes-at c =
     let a = c.args in
-    let l = c.loop-byte in
-    let k = a.n + l.byte-index in
-    let body : List ℕ = (frame_scan a.self.now.bytes.now).body in
-    let left : k < length body = omega (arith, length-take-le _ a.out.now c.requires.room) in
-    let next : a.n + (l.byte-index + 1) ≡ k + 1 = omega arith in
-    let byte : get_or a.self.now.bytes.now l.at 0 ≡ get_or (drop a.n body) l.byte-index 0 =
-    skip-byte a.self.now.bytes.now k l.at l.invariant.place left ∙ sym (get_or-drop a.n body l.byte-index 0) in
-    record {
-      place = rw next (elim c.if-byte-esc.branch [
-        | then-byte-esc w ↦ rw w.at-is (skip-doubled a.self.now.bytes.now k l.at l.invariant.place left (rw c.escape-esc.ensures at w.if-byte-esc.true))
-        | else-byte-esc w ↦ rw w.at-is (skip-plain a.self.now.bytes.now k l.at l.invariant.place left (rw c.escape-esc.ensures at w.if-byte-esc.false))
-      ]);
-      stored = rw (l.invariant.stored, byte) (copy_step (drop a.n body) _ l.byte-index (rw length-drop (omega arith)) (omega arith));
-    }
+    store_tail _ _ _ _ _ (at-escape c.copy_plain-plain.ensures c.loop-at.invariant.1.same) (c.if-bytes-at.true ∙ c.tail-last.ensures)
+    ∙ whole a.self.now.bytes.now a.out.now c.skip-at.result a.n a.self.now.count c.skip-at.ensures a.self.now.size c.requires.room
+
+pub bounds-out-to : goal.bounds-out-to
+bounds-out-to c =
+    (store-doubled _ _ _ _ _ (at-escape c.copy_plain-plain.ensures c.loop-at.invariant.1.same) c.escape-esc.result c.escape-esc.ensures (λ q. c.if-bytes-at.false (q ∙ sym c.tail-last.ensures))).0
+
+pub loop-at-preserved : goal.loop-at-preserved
+loop-at-preserved c =
+    let h = store-doubled _ _ _ _ _ (at-escape c.copy_plain-plain.ensures c.loop-at.invariant.1.same) c.escape-esc.result c.escape-esc.ensures (λ q. c.if-bytes-at.false (q ∙ sym c.tail-last.ensures)) in
+    (rw length-set (search rules), h.1)
