@@ -50,44 +50,44 @@ pub(crate) fn text(rt: &impl Print, text: &str) -> io::Result<()> {
 }
 
 // The digits of 4,096 bytes, with a space in front and an LF behind.
-const LINE: usize = 8194;
+const LONGEST_PRINT: usize = 8194;
 
 // A byte string, of at most 4,096 bytes. Its digits are written at once: measured, a store of 4,096 bytes took three times as long by `print!`,
 // which takes them one by one.
 pub(crate) fn bytes(rt: &impl Print, bytes: &[u8]) -> io::Result<()> {
-    let mut text = [b' '; LINE];
+    let mut text = [b' '; LONGEST_PRINT];
     let end = spell(bytes, &mut text);
     rt.write_all(&text[1..end])
 }
 
 // The same, and the line's end.
 pub(crate) fn bytes_line(rt: &impl Print, bytes: &[u8]) -> io::Result<()> {
-    let mut text = [b' '; LINE];
+    let mut text = [b' '; LONGEST_PRINT];
     let end = spell(bytes, &mut text);
     rt.write_all(&text[1..end + 1])
 }
 
 // ` OUT`: a lent output, whole.
 pub(crate) fn output(rt: &impl Print, out: &[u8]) -> io::Result<()> {
-    let mut text = [b' '; LINE];
+    let mut text = [b' '; LONGEST_PRINT];
     let end = spell(out, &mut text);
     rt.write_all(&text[..end])
 }
 
 // ` OUT`, and the line's end.
 pub(crate) fn last(rt: &impl Print, out: &[u8]) -> io::Result<()> {
-    let mut text = [b' '; LINE];
+    let mut text = [b' '; LONGEST_PRINT];
     let end = spell(out, &mut text);
     rt.write_all(&text[..end + 1])
 }
 
 // Puts a byte string's digits behind the space in front, and an LF behind them. Answers where the LF is.
-fn spell(bytes: &[u8], text: &mut [u8; LINE]) -> usize
+fn spell(bytes: &[u8], text: &mut [u8; LONGEST_PRINT]) -> usize
     ensures low { 1 ≤ result }
     ensures high { result ≤ 8193 }
 {
-    let length = text_hex::write_hex(bytes, &mut text[1..LINE - 1]).unwrap_or(0);
-    let end = length.min(LINE - 2) + 1;
+    let length = text_hex::write_hex(bytes, &mut text[1..LONGEST_PRINT - 1]).unwrap_or(0);
+    let end = length.min(LONGEST_PRINT - 2) + 1;
     text[end] = b'\n';
     end
 }
